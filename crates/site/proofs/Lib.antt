@@ -1,0 +1,2 @@
+pub mod Guesses
+pub mod Lines
