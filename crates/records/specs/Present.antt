@@ -15,6 +15,7 @@ use Rattle.records.specs.declared.transaction.Entry.{Entry}
 use Rattle.records.specs.declared.transaction.Transaction.{Transaction}
 use Rattle.records.specs.declared.verdict.Verdict.{Verdict}
 use Rattle.records.specs.Few.{few-list}
+use Rattle.records.specs.Lists.{all}
 use Rattle.records.specs.Modes.{mode-of}
 use Rattle.records.specs.Times.{counter-of, site-of}
 
@@ -50,10 +51,6 @@ line-present size cards l =
 -- A verdict is absent if its time is out of range.
 abbrev pub verdict-present : Size → Verdict → Bool
 verdict-present size v = time-in-range size (v .time)
-
-abbrev pub all : {X : Type 0} → (X → Bool) → List X → Bool
-all test [] = true
-all test (x ∷ xs) = test x && all test xs
 
 -- A transaction's entry is out of range if its card is absent or its time read is above the transaction's time.
 abbrev pub entry-present : {V : Type 0} → Size → List (Card V) → ℕ → Entry V → Bool

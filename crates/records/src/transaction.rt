@@ -1,8 +1,9 @@
 // A transaction as its origin keeps it.
 ghost use mathlib.Core.Path.{_≡_};
 ghost use Rattle.records.specs.Few.{few-list};
+ghost use Rattle.records.specs.Lists.{all};
 ghost use Rattle.records.specs.Kinds.{mark-kind};
-ghost use Rattle.records.specs.Present.{all, entry-present, transaction-present};
+ghost use Rattle.records.specs.Present.{entry-present, transaction-present};
 use crate::card;
 use crate::card::Card;
 use crate::few::Few;

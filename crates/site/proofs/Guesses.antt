@@ -11,13 +11,14 @@ use Rattle.std.specs.shelf.Lists.{kept-by}
 use Rattle.std.proofs.shelf.Ways.{tells}
 use Rattle.records.specs.declared.card.Card.{Card}
 use Rattle.records.specs.declared.line.Line.{Line}
+use Rattle.records.specs.Lists.{none}
 use Rattle.records.specs.Present.{card-at}
 use Rattle.site.specs.declared.check.Guess.{Guess}
 use Rattle.site.specs.declared.check.Guess.the-variants.{ReadLatest, NoConflict}
 use Rattle.site.specs.declared.versions.Version.{Version}
 use Rattle.site.specs.Knowledge.{Site}
 use Rattle.site.specs.Versions.{written, version-of, opening-versions}
-use Rattle.site.specs.Check.{reserves, reservation-of, strictly-between, none, guess-holds, upsets}
+use Rattle.site.specs.Check.{reserves, reservation-of, strictly-between, guess-holds, upsets}
 use Rattle.site.proofs.Lines.{at-drop-read}
 
 -- Whether a guess holds over some of the lines.

@@ -5,6 +5,7 @@ use mathlib.Core.List.{List, [], _∷_, map}
 use lib.Dec.{eqb, ltb}
 use Rattle.std.specs.shelf.Lists.{kept-by}
 use Rattle.records.specs.declared.line.Line.{Line}
+use Rattle.records.specs.Lists.{none}
 use Rattle.records.specs.Modes.{reads, writes}
 use Rattle.records.specs.Present.{line-present}
 use Rattle.site.specs.declared.check.Guess.{Guess}
@@ -30,10 +31,6 @@ reservations site card = map reservation-of (kept-by (reserves site card) (site 
 
 abbrev pub strictly-between : ℕ → ℕ → ℕ → Bool
 strictly-between from to time = ltb from time && ltb time to
-
-abbrev pub none : {X : Type 0} → (X → Bool) → List X → Bool
-none test [] = true
-none test (x ∷ xs) = not (test x) && none test xs
 
 -- Read-latest: no version of the card strictly between the time read and the line's time. No-conflict: the line's time
 -- strictly inside no reservation of the card; a reservation that ends at another time is another transaction's.

@@ -1,3 +1,4 @@
+pub mod Arrivals
 pub mod Check
 pub mod Knowledge
 pub mod Versions
