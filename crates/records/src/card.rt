@@ -39,7 +39,11 @@ impl<V: Copy> Card<V> {
     fn if_present(&self, size: Size) -> Option<Card<V>>
         ensures { λ r. ⌜ r ≡ if-present size (Some (now (self .entry))) ⌝ }
     {
-        if self.present(size) { Some(*self) } else { None }
+        if self.present(size) {
+            Some(*self)
+        } else {
+            None
+        }
     }
 }
 

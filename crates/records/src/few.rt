@@ -31,7 +31,9 @@ impl<T: Copy> Few<T> {
         ensures { λ r. ⌜ r ≡ nth (few-list (now (self .entry))) i ⌝ }
     {
         match (*self, i) {
-            (Few::One(a) | Few::Two(a, _) | Few::Three(a, _, _) | Few::Four(a, _, _, _), 0) => Some(a),
+            (Few::One(a) | Few::Two(a, _) | Few::Three(a, _, _) | Few::Four(a, _, _, _), 0) => Some(
+                a,
+            ),
             (Few::Two(_, b) | Few::Three(_, b, _) | Few::Four(_, b, _, _), 1) => Some(b),
             (Few::Three(_, _, c) | Few::Four(_, _, c, _), 2) => Some(c),
             (Few::Four(_, _, _, d), 3) => Some(d),

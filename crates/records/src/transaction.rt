@@ -64,7 +64,10 @@ impl<V: Copy> Transaction<V> {
     pub fn present(&self, size: Size, cards: &[Card<V>], lines: usize) -> bool
         ensures { λ r. ⌜ r ≡ transaction-present size (now (cards .entry)) lines (now (self .entry)) ⌝ }
     {
-        size.has_time(self.time) && 0 < lines && self.entries.len() == lines && self.entries_present(size, cards)
+        size.has_time(self.time)
+            && 0 < lines
+            && self.entries.len() == lines
+            && self.entries_present(size, cards)
     }
 
     fn entries_present(&self, size: Size, cards: &[Card<V>]) -> bool
@@ -75,9 +78,14 @@ impl<V: Copy> Transaction<V> {
             Few::Nothing => true,
             Few::One(a) => a.present(size, cards, t),
             Few::Two(a, b) => a.present(size, cards, t) && b.present(size, cards, t),
-            Few::Three(a, b, c) => a.present(size, cards, t) && b.present(size, cards, t) && c.present(size, cards, t),
+            Few::Three(a, b, c) => a.present(size, cards, t)
+                && b.present(size, cards, t)
+                && c.present(size, cards, t),
             Few::Four(a, b, c, d) => {
-                a.present(size, cards, t) && b.present(size, cards, t) && c.present(size, cards, t) && d.present(size, cards, t)
+                a.present(size, cards, t)
+                    && b.present(size, cards, t)
+                    && c.present(size, cards, t)
+                    && d.present(size, cards, t)
             }
         }
     }

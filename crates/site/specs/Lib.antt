@@ -1,4 +1,5 @@
 pub mod Arrivals
 pub mod Check
+pub mod Faults
 pub mod Knowledge
 pub mod Versions

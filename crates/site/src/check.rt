@@ -50,8 +50,12 @@ impl<'a, V: Copy> View<'a, V> {
         ensures { λ r. ⌜ r ≡ upsets (seen (now (self .entry))) guess (now (line .entry)) (now (l .entry)) ⌝ }
     {
         match guess {
-            Guess::ReadLatest => line.read < l.time && l.time < line.time && self.written(line.card, false, l),
-            Guess::NoConflict => l.read < line.time && line.time < l.time && self.reserves(line.card, l),
+            Guess::ReadLatest => line.read < l.time
+                && l.time < line.time
+                && self.written(line.card, false, l),
+            Guess::NoConflict => l.read < line.time
+                && line.time < l.time
+                && self.reserves(line.card, l),
         }
     }
 

@@ -68,7 +68,10 @@ impl<'a, V: Copy> View<'a, V> {
     pub(crate) fn written(&self, number: u32, settled: bool, l: &Line<V>) -> bool
         ensures { λ r. ⌜ r ≡ written (seen (now (self .entry))) settled number (now (l .entry)) ⌝ }
     {
-        l.card == number && mode::does_write(l.mode) && l.present(self.size, self.cards) && self.stands(settled, l.time)
+        l.card == number
+            && mode::does_write(l.mode)
+            && l.present(self.size, self.cards)
+            && self.stands(settled, l.time)
     }
 
     pub(crate) fn stands(&self, settled: bool, time: u32) -> bool
