@@ -1,8 +1,8 @@
 -- What the primary of one card does with what arrives. Assumes nothing.
 use Prim.Native.Nat.{ℕ}
 use mathlib.Core.Bool.{Bool, true, false, cond, _&&_}
-use mathlib.Core.List.{List, [], _∷_}
-use lib.Dec.{leb}
+use mathlib.Core.List.{List, [], _∷_, _++_}
+use lib.Dec.{leb, ltb}
 use lib.ListN.{length}
 use Rattle.std.specs.Options.{isSome}
 use Rattle.std.specs.Of.Vec.{vec-items}
@@ -26,9 +26,21 @@ desk-size = record { sites = 8; transactions = 32 }
 abbrev pub site-of : {V : Type 0} → Primary V → Site V
 site-of p = record { size = desk-size; cards = vec-items (p .cards); lines = vec-items (p .lines); verdicts = vec-items (p .verdicts) }
 
--- The one card, with its opening value, and no line and no verdict yet.
-abbrev pub opened : {V : Type 0} → V → Site V
-opened v = record { size = desk-size; cards = record { opening = v; holders = 1; primary = 0 } ∷ []; lines = []; verdicts = [] }
+-- No card, line or verdict yet.
+abbrev pub unopened : {V : Type 0} → Site V
+unopened = record { size = desk-size; cards = []; lines = []; verdicts = [] }
+
+abbrev pub is-open : {V : Type 0} → Site V → Bool
+is-open site = ltb 0 (length (site .cards))
+
+-- The card is number 0; this site holds it and is its primary.
+abbrev pub with-card : {V : Type 0} → Site V → V → Site V
+with-card site v =
+    record { size = site .size; cards = site .cards ++ record { opening = v; holders = 1; primary = 0 } ∷ []; lines = site .lines; verdicts = site .verdicts }
+
+-- A card is opened once.
+abbrev pub open-after : {V : Type 0} → Site V → V → Site V
+open-after site v = cond (is-open site) site (with-card site v)
 
 -- A line is foreign if it is out of range, or would land while no line record is free.
 abbrev pub line-answer : {V : Type 0} → Site V → Line V → Result Judgement SiteFault

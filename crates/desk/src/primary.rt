@@ -10,6 +10,8 @@ pub struct Primary<V: Copy> {
     pub(crate) cards: Vec<Card<V>>,
     pub(crate) lines: Vec<Line<V>>,
     pub(crate) verdicts: Vec<Verdict>,
+    ghost one_card: { vec-len cards ≤ 1 },
+    ghost card_taken: { 1 ≤ vec-cap cards },
     ghost lines_few: { vec-len lines ≤ 128 },
     ghost lines_taken: { 128 ≤ vec-cap lines },
     ghost verdicts_few: { vec-len verdicts ≤ 32 },

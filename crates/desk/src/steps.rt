@@ -1,7 +1,8 @@
 // What the primary does with what arrives.
 ghost use mathlib.Core.Path.{_≡_};
+ghost use mathlib.Core.Bool.{not};
 ghost use Rattle.std.specs.Vec.{made};
-ghost use Rattle.desk.specs.Steps.{site-of, opened, line-answer, line-after, verdict-answer, verdict-after};
+ghost use Rattle.desk.specs.Steps.{site-of, unopened, is-open, open-after, line-answer, line-after, verdict-answer, verdict-after};
 ghost use Rattle.site.specs.Knowledge.{seen};
 ghost use Rattle.site.specs.Versions.{current, committed-value};
 use crate::primary::Primary;
@@ -22,23 +23,37 @@ const SIZE: Size = Size {
 };
 
 impl<V: Copy> Primary<V> {
-    // A primary whose card has this opening value, with all its records free.
-    pub fn new(heap: Global, opening: V) -> Result<Primary<V>, AllocError>
-        ensures { λ r. ⌜ made r (λ p. site-of p ≡ opened opening) ⌝ }
+    // A primary with all its records free, whose card is not opened yet.
+    pub fn new(heap: Global) -> Result<Primary<V>, AllocError>
+        ensures { λ r. ⌜ made r (λ p. site-of p ≡ unopened) ⌝ }
     {
-        let mut cards = Vec::with_capacity(heap, 1)?;
-        cards.push_reserved(Card {
+        Ok(Primary {
+            cards: Vec::with_capacity(heap, 1)?,
+            lines: Vec::with_capacity(heap, 128)?,
+            verdicts: Vec::with_capacity(heap, 32)?,
+        })
+    }
+
+    pub fn is_open(&self) -> bool
+        ensures { λ r. ⌜ r ≡ is-open (site-of (now (self .entry))) ⌝ }
+    {
+        0 < self.cards.len()
+    }
+
+    // Opens the card with its opening value, once; false if it is open already.
+    pub fn open(&mut self, opening: V) -> bool
+        ensures answer { λ r. ⌜ r ≡ not (is-open (site-of (now (self .entry)))) ⌝ }
+        ensures after { λ _. ⌜ site-of (now (self .exit)) ≡ open-after (site-of (now (self .entry))) opening ⌝ }
+    {
+        if self.is_open() {
+            return false;
+        }
+        self.cards.push_reserved(Card {
             opening,
             holders: 1,
             primary: 0,
         });
-        let lines = Vec::with_capacity(heap, 128)?;
-        let verdicts = Vec::with_capacity(heap, 32)?;
-        Ok(Primary {
-            cards,
-            lines,
-            verdicts,
-        })
+        true
     }
 
     fn view(&self) -> View<'_, V>

@@ -1,0 +1,4 @@
+// The rule books: counts and dates.
+mod card;
+pub mod date;
+pub mod tally;

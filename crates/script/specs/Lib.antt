@@ -1,0 +1,9 @@
+pub mod Arrivals
+pub mod Dates
+pub mod Forms
+pub mod Gathering
+pub mod Numbers
+pub mod Outcomes
+pub mod Pieces
+pub mod Readers
+pub mod Words

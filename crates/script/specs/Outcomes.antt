@@ -1,0 +1,11 @@
+-- Outcomes in a text. Assumes nothing.
+use Prim.Native.Nat.{ℕ}
+use mathlib.Core.List.{List}
+use Rattle.std.specs.declared.option.Option.{Option}
+use Rattle.records.specs.declared.verdict.Outcome.{Outcome}
+use Rattle.records.specs.Outcomes.{outcome-of}
+use Rattle.script.specs.Forms.{read}
+use Rattle.script.specs.Numbers.{numeral}
+
+abbrev pub outcome-text : List ℕ → Option Outcome
+outcome-text text = read outcome-of (numeral text)
