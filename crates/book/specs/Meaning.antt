@@ -7,10 +7,10 @@ use lib.ListN.{length}
 use Rattle.std.specs.declared.result.Result.{Result}
 use Rattle.std.specs.declared.result.Result.the-variants.{Ok, Err}
 use Rattle.std.specs.shelf.Lists.{All}
-use Rattle.records.specs.Few.{few-list}
-use Rattle.records.specs.Modes.{mode-number, writes}
-use Rattle.records.specs.declared.few.Few.{Few}
-use Rattle.records.specs.declared.mode.Mode.{Mode}
+use Rattle.terms.specs.Few.{few-list}
+use Rattle.terms.specs.Modes.{mode-number, writes}
+use Rattle.terms.specs.declared.few.Few.{Few}
+use Rattle.terms.specs.declared.mode.Mode.{Mode}
 use Rattle.book.specs.declared.fault.BookFault.{BookFault}
 
 -- A rule declines with the book's code, or gives the values to write, in the order of the lines that write.

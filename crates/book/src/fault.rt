@@ -1,5 +1,5 @@
 // A book's refusal.
-use records::fault::Fault;
+use terms::fault::Fault;
 
 // The book declines, for the reason that its code names.
 #[derive(Clone, Copy, Debug, PartialEq, Eq)]

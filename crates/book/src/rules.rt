@@ -5,8 +5,8 @@ ghost use mathlib.Core.Path.{_≡_};
 ghost use lib.ListN.{length};
 ghost use Rattle.book.specs.Meaning.{Answer, answer-of, modes-in, Modes-known, One-for-each-write};
 use crate::fault::BookFault;
-use records::few::Few;
-use records::mode::Mode;
+use terms::few::Few;
+use terms::mode::Mode;
 
 // A book of rules over the values that its cards hold. A question changes nothing.
 pub trait RuleBook {

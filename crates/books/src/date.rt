@@ -4,9 +4,9 @@ ghost use Rattle.books.specs.Dates.{is-blank, days-in, lawful, date-key, earli
 use crate::card::value_at;
 use book::fault::BookFault;
 use book::rules::RuleBook;
-use records::few::Few;
-use records::mode::Mode;
 use std::fmt;
+use terms::few::Few;
+use terms::mode::Mode;
 
 const UNKNOWN_RULE: BookFault = BookFault { code: 0 };
 

@@ -7,8 +7,8 @@ ghost use Rattle.books.specs.Tallies.{tally-modes, tally-answer, moving, withi
 use crate::card::value_at;
 use book::fault::BookFault;
 use book::rules::RuleBook;
-use records::few::Few;
-use records::mode::Mode;
+use terms::few::Few;
+use terms::mode::Mode;
 
 const LIMIT: u32 = 999_999;
 

@@ -9,8 +9,8 @@ mod tests {
     use books::date::Dates;
     use books::tally::Tally;
     use books::tally::TallyBook;
-    use records::few::Few;
     use std::test::*;
+    use terms::few::Few;
 
     // A rule, its argument and the values read; then the values to write, or the book's code.
     #[derive(Drop)]

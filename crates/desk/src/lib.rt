@@ -1,7 +1,7 @@
 // The primary of one card of the date book as the arrivals program plays it.
 pub mod answers;
 pub mod play;
-pub mod primary;
+mod primary;
 pub mod reply;
 pub mod show;
-pub mod steps;
+mod steps;

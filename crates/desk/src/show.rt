@@ -2,10 +2,10 @@
 use crate::reply::Reply;
 use crate::reply::Summary;
 use books::date::DateDisplay;
-use records::fault::Fault;
 use site::fault::SiteFaultTold;
 use site::judge::Judgement;
 use std::fmt;
+use terms::fault::Fault;
 
 fn word(judgement: Judgement) -> &'static str {
     match judgement {

@@ -14,10 +14,10 @@ use Rattle.records.specs.declared.size.Size.{Size}
 use Rattle.records.specs.declared.transaction.Entry.{Entry}
 use Rattle.records.specs.declared.transaction.Transaction.{Transaction}
 use Rattle.records.specs.declared.verdict.Verdict.{Verdict}
-use Rattle.records.specs.Few.{few-list}
-use Rattle.records.specs.Lists.{all}
-use Rattle.records.specs.Modes.{mode-of}
-use Rattle.records.specs.Times.{counter-of, site-of}
+use Rattle.terms.specs.Few.{few-list}
+use Rattle.terms.specs.Lists.{all}
+use Rattle.terms.specs.Modes.{mode-of}
+use Rattle.terms.specs.Times.{counter-of, site-of}
 
 -- A counter that a transaction may have: 1 to T.
 abbrev pub counter-in-range : Size → ℕ → Bool

@@ -3,8 +3,8 @@ ghost use mathlib.Core.Path.{_≡_};
 ghost use Rattle.records.specs.Present.{line-present};
 use crate::card;
 use crate::card::Card;
-use crate::mode::Mode;
 use crate::size::Size;
+use terms::mode::Mode;
 
 #[derive(Clone, Copy)]
 pub struct Line<V> {

@@ -1,7 +1,7 @@
 // The size of a sitting: n sites and at most T transactions.
 ghost use mathlib.Core.Path.{_≡_};
 ghost use Rattle.records.specs.Present.{time-in-range};
-use crate::time::VirtualTime;
+use terms::time::VirtualTime;
 
 #[derive(Clone, Copy)]
 pub struct Size {

@@ -1,36 +1,14 @@
 // A transaction as its origin keeps it.
 ghost use mathlib.Core.Path.{_≡_};
-ghost use Rattle.records.specs.Few.{few-list};
-ghost use Rattle.records.specs.Lists.{all};
-ghost use Rattle.records.specs.Kinds.{mark-kind};
+ghost use Rattle.terms.specs.Few.{few-list};
+ghost use Rattle.terms.specs.Lists.{all};
 ghost use Rattle.records.specs.Present.{entry-present, transaction-present};
 use crate::card;
 use crate::card::Card;
-use crate::few::Few;
-use crate::few::FewClone;
-use crate::message::Kind;
 use crate::size::Size;
-
-// What the origin knows of the primary's check of a line.
-#[derive(Clone, Copy)]
-pub enum Mark {
-    Asked,
-    Confirmed,
-    Denied,
-}
-
-impl Mark {
-    // The kind of message that leaves this mark.
-    pub fn kind(self) -> Kind
-        ensures { λ r. ⌜ r ≡ mark-kind self ⌝ }
-    {
-        match self {
-            Mark::Asked => Kind::Line,
-            Mark::Confirmed => Kind::Confirm,
-            Mark::Denied => Kind::Deny,
-        }
-    }
-}
+use terms::few::Few;
+use terms::few::FewClone;
+use terms::mark::Mark;
 
 // What the origin keeps of one of the transaction's lines; its mode is its rule's.
 #[derive(Clone, Copy)]

@@ -2,8 +2,8 @@
 use Prim.Native.Nat.{ℕ}
 use mathlib.Core.List.{List}
 use Rattle.std.specs.declared.option.Option.{Option}
-use Rattle.records.specs.declared.verdict.Outcome.{Outcome}
-use Rattle.records.specs.Outcomes.{outcome-of}
+use Rattle.terms.specs.declared.outcome.Outcome.{Outcome}
+use Rattle.terms.specs.Outcomes.{outcome-of}
 use Rattle.script.specs.Forms.{read}
 use Rattle.script.specs.Numbers.{numeral}
 

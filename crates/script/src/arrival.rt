@@ -10,7 +10,7 @@ use crate::gather::Gather;
 use crate::pieces::Pieces;
 use crate::word::Word;
 use books::date::Date;
-use records::verdict::Outcome;
+use terms::outcome::Outcome;
 
 // What a line tells. The mode is any number, and `read` the time of the version that was read.
 #[derive(Clone, Copy)]
@@ -31,7 +31,7 @@ pub enum Arrival {
 
 impl Arrival {
     // The arrival that a line tells; if it has no such form, the number of its first bad field, from 1.
-    pub fn of(line: &[u8]) -> Result<Arrival, u32>
+    fn of(line: &[u8]) -> Result<Arrival, u32>
         ensures { λ r. ⌜ r ≡ arrival-form (now (line .entry)) ⌝ }
     {
         if line.len() > 80 {

@@ -10,7 +10,7 @@ use crate::date::date;
 use crate::number::number;
 use crate::pieces::Pieces;
 use books::date::Date;
-use records::verdict::Outcome;
+use terms::outcome::Outcome;
 
 impl<'a> Pieces<'a> {
     pub fn number(&mut self) -> Option<u32>

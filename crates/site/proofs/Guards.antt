@@ -14,10 +14,10 @@ use Rattle.std.proofs.shelf.Ways.{tells}
 use Rattle.records.specs.declared.line.Line.{Line}
 use Rattle.records.specs.declared.size.Size.{Size}
 use Rattle.records.specs.declared.card.Card.{Card}
-use Rattle.records.specs.Lists.{In, none}
-use Rattle.records.specs.Modes.{writes}
+use Rattle.terms.specs.Lists.{In, none}
+use Rattle.terms.specs.Modes.{writes}
 use Rattle.records.specs.Present.{line-present}
-use Rattle.records.proofs.Lists.{in-left, in-right}
+use Rattle.terms.proofs.Lists.{in-left, in-right}
 use Rattle.site.specs.declared.check.Guess.the-variants.{ReadLatest, NoConflict}
 use Rattle.site.specs.Arrivals.{judged, lands, landed, recorded, Arrival, line-arrives, verdict-arrives, after, Guards}
 use Rattle.site.specs.Check.{reserves, reservation-of, strictly-between, guess-holds, guess-fails, denied}

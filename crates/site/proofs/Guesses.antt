@@ -11,7 +11,7 @@ use Rattle.std.specs.shelf.Lists.{kept-by}
 use Rattle.std.proofs.shelf.Ways.{tells}
 use Rattle.records.specs.declared.card.Card.{Card}
 use Rattle.records.specs.declared.line.Line.{Line}
-use Rattle.records.specs.Lists.{none}
+use Rattle.terms.specs.Lists.{none}
 use Rattle.records.specs.Present.{card-at}
 use Rattle.site.specs.declared.check.Guess.{Guess}
 use Rattle.site.specs.declared.check.Guess.the-variants.{ReadLatest, NoConflict}

@@ -11,7 +11,7 @@ use Rattle.std.specs.Options.{isSome}
 use Rattle.std.specs.shelf.Lists.{kept-by}
 use Rattle.std.specs.shelf.Bests.{best-of}
 use Rattle.std.proofs.shelf.Lists.{at-drop-more}
-use Rattle.std.proofs.shelf.Tests.{cases-bool, cond-true, cond-false, eqb-true, and-left}
+use Rattle.std.proofs.shelf.Tests.{cases-bool, cond-false, eqb-true, and-right}
 use Rattle.std.proofs.shelf.Ways.{tells}
 use Rattle.records.specs.declared.line.Line.{Line}
 use Rattle.records.specs.Present.{line-present, card-at}
@@ -41,16 +41,20 @@ module _ {V : Type 0} (site : Site V) (card : ℕ) (absent : isSome (card-at (si
   none-written settled [] = refl
   none-written settled (l ∷ ls) = cond-false _ _ _ (not-written settled l) ∙ none-written settled ls
 
+and-true : (b : Bool) → (b && true) ≡ b
+and-true true = refl
+and-true false = refl
+
 -- The best of the versions among some lines, from the best so far.
 abbrev pub best-left : {V : Type 0} → Site V → Bool → ℕ → Version V → List (Line V) → Version V
 best-left site settled card best ls = best-of later best (map version-of (kept-by (written site settled card) ls))
 
-one-more : {V : Type 0} (w : Bool) (best : Version V) (l : Line V) (ls : List (Line V)) → best-of later (cond (w && later (version-of l) best) (version-of l) best) (map version-of ls) ≡ best-of later best (map version-of (cond w (l ∷ ls) ls))
-one-more true best l ls = refl
-one-more false best l ls = refl
+one-more : {V : Type 0} (w : Bool) (best : Version V) (l : Line V) (ls : List (Line V)) → best-of later (cond (later (version-of l) best && w) (version-of l) best) (map version-of ls) ≡ best-of later best (map version-of (cond w (l ∷ ls) ls))
+one-more true best l ls = ap (λ b. best-of later (cond b (version-of l) best) (map version-of ls)) (and-true (later (version-of l) best))
+one-more false best l ls = ap (λ b. best-of later (cond b (version-of l) best) (map version-of ls)) (and-right (later (version-of l) best) false refl)
 
 -- A turn of the search takes in the line at place i.
-pub best-left-more : {V : Type 0} (site : Site V) (settled : Bool) (card : ℕ) (best next : Version V) (i : ℕ) (l : Line V) → i < length (site .lines) → l ≡ getD (site .lines) i l → next ≡ cond (written site settled card l && later (version-of l) best) (version-of l) best → best-left site settled card next (drop (i + 1) (site .lines)) ≡ best-left site settled card best (drop i (site .lines))
+pub best-left-more : {V : Type 0} (site : Site V) (settled : Bool) (card : ℕ) (best next : Version V) (i : ℕ) (l : Line V) → i < length (site .lines) → l ≡ getD (site .lines) i l → next ≡ cond (later (version-of l) best && written site settled card l) (version-of l) best → best-left site settled card next (drop (i + 1) (site .lines)) ≡ best-left site settled card best (drop i (site .lines))
 best-left-more site settled card best next i l h read is =
     ap (λ b. best-left site settled card b (drop (i + 1) (site .lines))) is
     ∙ one-more (written site settled card l) best l (kept-by (written site settled card) (drop (i + 1) (site .lines)))

@@ -8,10 +8,10 @@ use Rattle.std.specs.Options.{isSome}
 use Rattle.std.specs.declared.option.Option.{Option}
 use Rattle.std.specs.declared.option.Option.the-variants.{Some, None}
 use Rattle.records.specs.declared.line.Line.{Line}
-use Rattle.records.specs.declared.message.Kind.{Kind}
-use Rattle.records.specs.declared.message.Kind.the-variants as kind
+use Rattle.terms.specs.declared.kind.Kind.{Kind}
+use Rattle.terms.specs.declared.kind.Kind.the-variants as kind
 use Rattle.records.specs.declared.verdict.Verdict.{Verdict}
-use Rattle.records.specs.Modes.{writes}
+use Rattle.terms.specs.Modes.{writes}
 use Rattle.records.specs.Present.{line-present}
 use Rattle.site.specs.declared.judge.Judgement.{Judgement}
 use Rattle.site.specs.declared.judge.Judgement.the-variants.{Dropped, Confirmed, Denied}

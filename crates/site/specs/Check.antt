@@ -5,8 +5,8 @@ use mathlib.Core.List.{List, [], _∷_, map}
 use lib.Dec.{eqb, ltb}
 use Rattle.std.specs.shelf.Lists.{kept-by}
 use Rattle.records.specs.declared.line.Line.{Line}
-use Rattle.records.specs.Lists.{none}
-use Rattle.records.specs.Modes.{reads, writes}
+use Rattle.terms.specs.Lists.{none}
+use Rattle.terms.specs.Modes.{reads, writes}
 use Rattle.records.specs.Present.{line-present}
 use Rattle.site.specs.declared.check.Guess.{Guess}
 use Rattle.site.specs.declared.check.Guess.the-variants.{ReadLatest, NoConflict}

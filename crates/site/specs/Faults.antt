@@ -1,5 +1,5 @@
 -- The number, line and code of what a site refuses. Assumes nothing.
-use Rattle.records.specs.Faults.{Refusal}
+use Rattle.terms.specs.Faults.{Refusal}
 use Rattle.site.specs.declared.fault.SiteFault.{SiteFault}
 use Rattle.site.specs.declared.fault.SiteFault.the-variants.{Foreign}
 

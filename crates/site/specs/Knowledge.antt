@@ -8,8 +8,8 @@ use Rattle.std.specs.declared.option.Option.the-variants.{Some, None}
 use Rattle.records.specs.declared.card.Card.{Card}
 use Rattle.records.specs.declared.line.Line.{Line}
 use Rattle.records.specs.declared.size.Size.{Size}
-use Rattle.records.specs.declared.verdict.Outcome.{Outcome}
-use Rattle.records.specs.declared.verdict.Outcome.the-variants.{Commit, Abort}
+use Rattle.terms.specs.declared.outcome.Outcome.{Outcome}
+use Rattle.terms.specs.declared.outcome.Outcome.the-variants.{Commit, Abort}
 use Rattle.records.specs.declared.verdict.Verdict.{Verdict}
 use Rattle.records.specs.Present.{verdict-present}
 use Rattle.site.specs.declared.view.View.{View}

@@ -9,7 +9,7 @@ use Rattle.std.specs.shelf.Lists.{kept-by}
 use Rattle.std.specs.shelf.Bests.{best-of}
 use Rattle.records.specs.declared.card.Card.{Card}
 use Rattle.records.specs.declared.line.Line.{Line}
-use Rattle.records.specs.Modes.{writes}
+use Rattle.terms.specs.Modes.{writes}
 use Rattle.records.specs.Present.{line-present, card-at}
 use Rattle.site.specs.declared.versions.Version.{Version}
 use Rattle.site.specs.Knowledge.{Site, known, stands}

@@ -4,7 +4,7 @@ ghost use Rattle.site.specs.Knowledge.{seen};
 ghost use Rattle.site.specs.Check.{reserves, guess-holds, guess-fails, upsets, denied};
 use crate::view::View;
 use records::line::Line;
-use records::mode;
+use terms::mode;
 
 // The two guesses of a transaction that a primary checks.
 #[derive(Clone, Copy)]

@@ -1,6 +1,6 @@
 // What a site refuses.
 ghost use Rattle.site.specs.Faults.{site-told};
-use records::fault::Fault;
+use terms::fault::Fault;
 
 #[derive(Clone, Copy)]
 pub enum SiteFault {

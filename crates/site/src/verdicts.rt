@@ -3,8 +3,8 @@ ghost use mathlib.Core.Path.{_≡_};
 ghost use Rattle.site.specs.Knowledge.{known, verdict-on, aborted, committed, seen};
 use crate::view::View;
 use records::size::Size;
-use records::verdict::Outcome;
 use records::verdict::Verdict;
+use terms::outcome::Outcome;
 
 // The outcome that the verdicts tell of a time: of equal records the first found.
 fn verdict_on(size: Size, verdicts: &[Verdict], time: u32) -> Option<Outcome>

@@ -6,8 +6,8 @@ ghost use Rattle.site.specs.Versions.{written, later, version-of, highest, ver
 use crate::view::View;
 use records::card;
 use records::line::Line;
-use records::mode;
-use records::verdict::Outcome;
+use terms::mode;
+use terms::outcome::Outcome;
 
 // A value of a card and the virtual time at which it was written.
 #[derive(Clone, Copy)]
@@ -49,7 +49,7 @@ impl<'a, V: Copy> View<'a, V> {
 
     // The better of the best version so far and a line, if that is a version.
     fn take_in(&self, number: u32, settled: bool, best: Version<V>, l: &Line<V>) -> Version<V>
-        ensures { λ r. ⌜ r ≡ cond (written (seen (now (self .entry))) settled number (now (l .entry)) && later (version-of (now (l .entry))) best) (version-of (now (l .entry))) best ⌝ }
+        ensures { λ r. ⌜ r ≡ cond (later (version-of (now (l .entry))) best && written (seen (now (self .entry))) settled number (now (l .entry))) (version-of (now (l .entry))) best ⌝ }
     {
         if l.time <= best.time {
             return best;

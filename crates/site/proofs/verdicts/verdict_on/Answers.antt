@@ -1,7 +1,7 @@
 use native.Mathlib.Omega.{arith}
 use Rattle.std.proofs.shelf.Lists.{at-drop-more, at-drop-all}
 use Rattle.std.proofs.shelf.Ways.{tells}
-use Rattle.records.specs.declared.verdict.Outcome.the-variants.{Commit}
+use Rattle.terms.specs.declared.outcome.Outcome.the-variants.{Commit}
 use Rattle.site.specs.Knowledge.{verdict-on}
 use Rattle.site.proofs.verdicts.verdict_on.Needs as need
 
