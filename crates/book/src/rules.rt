@@ -3,6 +3,7 @@ ghost use Prim.Native.Nat.{ℕ, _≤_};
 ghost use mathlib.Core.List.{List};
 ghost use mathlib.Core.Path.{_≡_};
 ghost use lib.ListN.{length};
+ghost use Rattle.terms.specs.Few.{few-list};
 ghost use Rattle.book.specs.Meaning.{Answer, answer-of, modes-in, Modes-known, One-for-each-write};
 use crate::fault::BookFault;
 use terms::few::Few;
@@ -34,7 +35,7 @@ pub trait RuleBook {
         &self,
         rule: u32,
         argument: Self::Value,
-        read: &[Self::Value],
+        read: Few<Self::Value>,
     ) -> Result<Few<Self::Value>, BookFault>
-        ensures { λ r. ⌜ answer-of r ≡ answer (now (self .entry)) rule argument (now (read .entry)) ⌝ };
+        ensures { λ r. ⌜ answer-of r ≡ answer (now (self .entry)) rule argument (few-list read) ⌝ };
 }

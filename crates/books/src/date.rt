@@ -1,5 +1,7 @@
 // Dates and the date book: cards that are set, filled, made earlier and compared.
 ghost use mathlib.Core.Path.{_≡_};
+ghost use Rattle.book.specs.Meaning.{answer-of};
+ghost use Rattle.terms.specs.Few.{few-list};
 ghost use Rattle.books.specs.Dates.{is-blank, days-in, lawful, date-key, earlier, Date-order, out-of-order, dates-modes, dates-answer};
 use crate::card::value_at;
 use book::fault::BookFault;
@@ -111,7 +113,9 @@ pub impl RuleBook for Dates as DateBook {
         }
     }
 
-    fn run(&self, rule: u32, argument: Date, read: &[Date]) -> Result<Few<Date>, BookFault> {
+    fn run(&self, rule: u32, argument: Date, read: Few<Date>) -> Result<Few<Date>, BookFault>
+        ensures { λ r. ⌜ answer-of r ≡ dates-answer rule argument (few-list read) ⌝ }
+    {
         let first = value_at(read, 0, Date::BLANK);
         let second = value_at(read, 1, Date::BLANK);
         match rule {

@@ -3,6 +3,7 @@ ghost use Prim.Native.Nat.{_+_};
 ghost use mathlib.Core.List.{[], _∷_};
 ghost use mathlib.Core.Path.{_≡_};
 ghost use Rattle.book.specs.Meaning.{answer-of};
+ghost use Rattle.terms.specs.Few.{few-list};
 ghost use Rattle.books.specs.Tallies.{tally-modes, tally-answer, moving, within-limit};
 use crate::card::value_at;
 use book::fault::BookFault;
@@ -61,7 +62,9 @@ pub impl RuleBook for Tally as TallyBook {
         }
     }
 
-    fn run(&self, rule: u32, argument: u32, read: &[u32]) -> Result<Few<u32>, BookFault> {
+    fn run(&self, rule: u32, argument: u32, read: Few<u32>) -> Result<Few<u32>, BookFault>
+        ensures { λ r. ⌜ answer-of r ≡ tally-answer rule argument (few-list read) ⌝ }
+    {
         let first = value_at(read, 0, 0);
         let second = value_at(read, 1, 0);
         match rule {

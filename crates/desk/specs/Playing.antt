@@ -10,12 +10,12 @@ use Rattle.records.specs.declared.verdict.Verdict as records-verdict
 use Rattle.books.specs.declared.date.Date.{Date}
 use Rattle.script.specs.declared.arrival.Arrival.{Arrival}
 use Rattle.script.specs.declared.arrival.Arrival.the-variants.{Opening, Line, Verdict, Value}
-use Rattle.site.specs.declared.fault.SiteFault.{SiteFault}
-use Rattle.site.specs.declared.judge.Judgement.{Judgement}
-use Rattle.site.specs.declared.judge.Judgement.the-variants.{Dropped, Confirmed, Denied}
-use Rattle.site.specs.declared.versions.Version.{Version}
-use Rattle.site.specs.Knowledge.{Site}
-use Rattle.site.specs.Versions.{current, committed-value}
+use Rattle.knowledge.specs.declared.fault.SiteFault.{SiteFault}
+use Rattle.knowledge.specs.declared.judge.Judgement.{Judgement}
+use Rattle.knowledge.specs.declared.judge.Judgement.the-variants.{Dropped, Confirmed, Denied}
+use Rattle.knowledge.specs.declared.versions.Version.{Version}
+use Rattle.knowledge.specs.Knowledge.{Site}
+use Rattle.knowledge.specs.Versions.{current, committed-value}
 use Rattle.desk.specs.declared.play.Play.{Play}
 use Rattle.desk.specs.declared.reply.Reply.{Reply}
 use Rattle.desk.specs.declared.reply.Reply.the-variants.{Bad, Late, Opened, Judged, Recorded, Values}

@@ -1,8 +1,8 @@
 // What is answered to a line of the arrivals script, and what is said at its end.
 use books::date::Date;
-use site::fault::SiteFault;
-use site::judge::Judgement;
-use site::versions::Version;
+use knowledge::fault::SiteFault;
+use knowledge::judge::Judgement;
+use knowledge::versions::Version;
 
 #[derive(Drop)]
 pub enum Reply {

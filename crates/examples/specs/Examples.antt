@@ -7,10 +7,10 @@ use Rattle.terms.specs.declared.outcome.Outcome.the-variants.{Abort}
 use Rattle.records.specs.declared.verdict.Verdict.{Verdict}
 use Rattle.book.specs.Meaning.{Answer, declines, gives}
 use Rattle.books.specs.Tallies.{tally-answer}
-use Rattle.site.specs.declared.judge.Judgement.{Judgement}
-use Rattle.site.specs.declared.judge.Judgement.the-variants.{Confirmed, Denied}
-use Rattle.site.specs.Arrivals.{judged}
-use Rattle.site.specs.Knowledge.{Site}
+use Rattle.knowledge.specs.declared.judge.Judgement.{Judgement}
+use Rattle.knowledge.specs.declared.judge.Judgement.the-variants.{Confirmed, Denied}
+use Rattle.knowledge.specs.Arrivals.{judged}
+use Rattle.knowledge.specs.Knowledge.{Site}
 
 -- A primary with one card, number 0, some landed lines and some verdicts.
 abbrev primary : List (Line ℕ) → List Verdict → Site ℕ

@@ -1,6 +1,7 @@
 // Up to four things, one for each line of a rule.
 ghost use mathlib.Core.Path.{_≡_};
-ghost use lib.ListN.{length};
+ghost use mathlib.Core.List.{[], _∷_, _++_};
+ghost use lib.ListN.{length, take};
 ghost use Rattle.std.specs.Finite.{nth};
 ghost use Rattle.terms.specs.Few.{few-list};
 
@@ -38,6 +39,19 @@ impl<T: Copy> Few<T> {
             (Few::Three(_, _, c) | Few::Four(_, _, c, _), 2) => Some(c),
             (Few::Four(_, _, _, d), 3) => Some(d),
             _ => None,
+        }
+    }
+
+    // One thing more behind the others; a fifth finds no place.
+    pub fn with(self, next: T) -> Few<T>
+        ensures { λ r. ⌜ few-list r ≡ take 4 (few-list self ++ next ∷ []) ⌝ }
+    {
+        match self {
+            Few::Nothing => Few::One(next),
+            Few::One(a) => Few::Two(a, next),
+            Few::Two(a, b) => Few::Three(a, b, next),
+            Few::Three(a, b, c) => Few::Four(a, b, c, next),
+            Few::Four(a, b, c, d) => Few::Four(a, b, c, d),
         }
     }
 }
