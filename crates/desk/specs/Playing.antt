@@ -10,7 +10,7 @@ use Rattle.records.specs.declared.verdict.Verdict as records-verdict
 use Rattle.books.specs.declared.date.Date.{Date}
 use Rattle.script.specs.declared.arrival.Arrival.{Arrival}
 use Rattle.script.specs.declared.arrival.Arrival.the-variants.{Opening, Line, Verdict, Value}
-use Rattle.knowledge.specs.declared.fault.SiteFault.{SiteFault}
+use Rattle.site.specs.declared.fault.SiteFault.{SiteFault}
 use Rattle.knowledge.specs.declared.judge.Judgement.{Judgement}
 use Rattle.knowledge.specs.declared.judge.Judgement.the-variants.{Dropped, Confirmed, Denied}
 use Rattle.knowledge.specs.declared.versions.Version.{Version}

@@ -12,8 +12,8 @@ use Rattle.records.specs.declared.line.Line.{Line}
 use Rattle.records.specs.declared.size.Size.{Size}
 use Rattle.records.specs.declared.verdict.Verdict.{Verdict}
 use Rattle.records.specs.Present.{line-present, verdict-present}
-use Rattle.knowledge.specs.declared.fault.SiteFault.{SiteFault}
-use Rattle.knowledge.specs.declared.fault.SiteFault.the-variants.{Foreign}
+use Rattle.site.specs.declared.fault.SiteFault.{SiteFault}
+use Rattle.site.specs.declared.fault.SiteFault.the-variants.{Foreign}
 use Rattle.knowledge.specs.declared.judge.Judgement.{Judgement}
 use Rattle.knowledge.specs.Arrivals.{judged, lands, line-arrives, verdict-arrives, after}
 use Rattle.knowledge.specs.Knowledge.{Site, known}

@@ -1,8 +1,8 @@
 // What is answered to a line of the arrivals script, and what is said at its end.
 use books::date::Date;
-use knowledge::fault::SiteFault;
 use knowledge::judge::Judgement;
 use knowledge::versions::Version;
+use site::fault::SiteFault;
 
 #[derive(Drop)]
 pub enum Reply {

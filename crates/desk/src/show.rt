@@ -2,8 +2,8 @@
 use crate::reply::Reply;
 use crate::reply::Summary;
 use books::date::DateDisplay;
-use knowledge::fault::SiteFaultTold;
 use knowledge::judge::Judgement;
+use site::fault::SiteFaultTold;
 use std::fmt;
 use terms::fault::Fault;
 

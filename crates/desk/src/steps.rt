@@ -6,7 +6,6 @@ ghost use Rattle.desk.specs.Steps.{site-of, unopened, is-open, open-after, lin
 ghost use Rattle.knowledge.specs.Knowledge.{seen};
 ghost use Rattle.knowledge.specs.Versions.{current, committed-value};
 use crate::primary::Primary;
-use knowledge::fault::SiteFault;
 use knowledge::judge::Judgement;
 use knowledge::versions::Version;
 use knowledge::view::View;
@@ -14,6 +13,7 @@ use records::card::Card;
 use records::line::Line;
 use records::size::Size;
 use records::verdict::Verdict;
+use site::fault::SiteFault;
 use std::alloc::AllocError;
 use std::alloc::Global;
 

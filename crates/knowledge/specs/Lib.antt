@@ -1,5 +1,4 @@
 pub mod Arrivals
 pub mod Check
-pub mod Faults
 pub mod Knowledge
 pub mod Versions

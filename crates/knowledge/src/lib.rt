@@ -1,6 +1,5 @@
 // One site: what it knows of a card from its own lines and verdicts, and the primary's check.
 pub mod check;
-pub mod fault;
 pub mod judge;
 pub mod verdicts;
 pub mod versions;

@@ -5,7 +5,6 @@ mod tests {
     use books::date::Date;
     use desk::play::Play;
     use desk::reply::Reply;
-    use knowledge::fault::SiteFault;
     use knowledge::judge::Judgement;
     use knowledge::versions::Version;
     use knowledge::view::View;
@@ -14,6 +13,7 @@ mod tests {
     use records::size::Size;
     use records::verdict::Verdict;
     use script::arrival::Arrival;
+    use site::fault::SiteFault;
     use std::test::*;
     use terms::outcome::Outcome;
 

@@ -1,0 +1,4 @@
+pub mod Drafting
+pub mod Reading
+pub mod Starting
+pub mod Steps

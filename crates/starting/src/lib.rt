@@ -1,0 +1,8 @@
+// What a site does when a transaction is started there.
+pub mod answer;
+mod cards;
+mod drafting;
+mod messages;
+mod reading;
+pub mod start;
+pub mod step;
