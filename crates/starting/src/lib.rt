@@ -4,5 +4,6 @@ mod cards;
 mod drafting;
 mod messages;
 mod reading;
+pub mod sending;
 pub mod start;
 pub mod step;
