@@ -1,4 +1,6 @@
 // Plays the primary of one card: reads corrections in the order in which they arrive and says which stand.
+#![tactic(auto)]
+
 use desk::play::Play;
 use script::arrival::Arrival;
 use script::gather::Gather;

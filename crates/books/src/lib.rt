@@ -1,4 +1,6 @@
 // The rule books: counts and dates.
+#![tactic(auto)]
+
 mod card;
 pub mod date;
 pub mod tally;

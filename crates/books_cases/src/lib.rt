@@ -1,4 +1,6 @@
 // Cases of the books at the borders of their rules, worked out by hand.
+#![tactic(auto)]
+
 #[cfg(test)]
 mod tests {
     use book::fault::BookFault;

@@ -1,4 +1,6 @@
 // Drives a tray and lanes by commands, one to a line, and prints what came out.
+#![tactic(auto)]
+
 use carrier::carrier::Carrier;
 use carriers::lanes::Lanes;
 use carriers::tray::Tray;

@@ -1,4 +1,6 @@
 // What one site does with one message that is delivered to it: the effect is planned by value, then applied.
+#![tactic(auto)]
+
 pub mod deliver;
 pub mod effect;
 pub mod marks;

@@ -1,5 +1,7 @@
 // Cases of what one site knows, worked out by hand: verdicts, values and the primary's check, with damaged records
 // among them, and the tables of the arrivals program when they are full.
+#![tactic(auto)]
+
 #[cfg(test)]
 mod tests {
     use books::date::Date;

@@ -1,4 +1,6 @@
 // A whole sitting as definitions, and what holds of it: the law over every run, and that a refusal alters nothing.
+#![tactic(auto)]
+
 ghost use Rattle.std.specs.Prelude.{◌≡◌, length, take};
 ghost use Rattle.model.specs.Law.{HoldsOf};
 ghost use Rattle.model.specs.Runs.{Opened, OpensRight};

@@ -1,4 +1,6 @@
 // What a site does when one of its transactions is to be settled.
+#![tactic(auto)]
+
 pub mod doubt;
 pub mod settle;
 pub mod tell;

@@ -1,4 +1,6 @@
 // What a site does when a transaction is started there.
+#![tactic(auto)]
+
 pub mod answer;
 mod cards;
 mod drafting;

@@ -1,4 +1,6 @@
 // The whole steps at a site: a start, a delivery and a settlement, each decided first and then done.
+#![tactic(auto)]
+
 pub mod deliver;
 mod landing;
 pub mod numbers;

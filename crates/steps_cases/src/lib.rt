@@ -1,5 +1,7 @@
 // The steps of a small sitting of two sites, with the tally book and a tray, compared with values worked out by hand;
 // damaged records, stray messages and full tables among them.
+#![tactic(auto)]
+
 #[cfg(test)]
 mod tests {
     use books::tally::Tally;

@@ -7,22 +7,22 @@ use Rattle.carrier.proofs.sending.send_to.Goals as goal
 
 pub loop-site-preserved : goal.loop-site-preserved
 loop-site-preserved g c =
-    let queue = c.in-ok-send-if-named.ensures.did.queue in
+    let queue = c.in_ok-send_if_named.ensures.did.queue in
     let next = copies_next c.args.message c.args.sites c.loop-site.site c.loop-site-test.true in
     let joined = append_assoc (g.C.Carrier.waiting c.loop-site.carrier) (copy_if_named c.args.message c.args.sites c.loop-site.site) (copies_from c.args.message c.args.sites (c.loop-site.site + 1)) in
     (cc, cc)
 
-pub returns-then-free-places-target-count : goal.returns-then-free-places-target-count
-returns-then-free-places-target-count g c =
+pub returns-then-free_places-target_count : goal.returns-then-free_places-target_count
+returns-then-free_places-target_count g c =
     let bound = g.met.C.Carrier.bounded c.args.carrier.now in
     record { did = record { why = refl; crowd = omega (arith, length_copies c.args.message c.args.sites); kept = refl {a = g.C.Carrier.waiting c.args.carrier.now} }; same = refl {a = g.C.Carrier.limit c.args.carrier.now} }
 
 -- The copies fit, so the next one finds a place.
-pub returns-in-err-send-if-named : goal.returns-in-err-send-if-named
-returns-in-err-send-if-named g c =
+pub returns-in_err-send_if_named : goal.returns-in_err-send_if_named
+returns-in_err-send_if_named g c =
     let bound = g.met.C.Carrier.bounded c.args.carrier.now in
     let next = copies_next c.args.message c.args.sites c.loop-site.site c.loop-site-test.true in
-    let never : ⊥ = omega (arith, c.in-err-send-if-named.ensures.did.crowd, length_copies c.args.message c.args.sites, simp length-append at (ap length next), simp length-append at (ap length c.loop-site.invariant.0)) in
+    let never : ⊥ = omega (arith, c.in_err-send_if_named.ensures.did.crowd, length_copies c.args.message c.args.sites, simp length-append at (ap length next), simp length-append at (ap length c.loop-site.invariant.0)) in
     elim never [ ]
 
 pub returns : goal.returns

@@ -6,15 +6,15 @@ use Rattle.records.specs.declared.message.Message.{Message}
 use Rattle.carriers.specs.Choosing.{lane, distance}
 use Rattle.carriers.specs.Nearest.{less, best_is_least, found_first}
 use Rattle.carriers.proofs.lanes.nearest.Goals as goal
-use Rattle.carriers.proofs.lanes.nearest.Goals.{then-distance-of, else-distance-of}
+use Rattle.carriers.proofs.lanes.nearest.Goals.{then-distance_of, else-distance_of}
 
 pub loop-place-preserved : goal.loop-place-preserved
 loop-place-preserved g c =
     let key : Message g.row.V.Denot → ℕ = λ m. distance c.args.hint (lane m) in
     let Kept : ℕ → Type 0 = λ b. IsFirstBest (less key) c.args.waiting.now (c.loop-place.place + 1) b in
-    elim c.if-distance-of.branch [
-      | then-distance-of w ↦ (subst Kept (sym w.best-is) (IsFirstBest-takes (IsStrictWeakOrder-by_number key) _ _ _ _ _ c.loop-place.invariant.0 c.loop-place-test.true c.index-waiting-place.is c.index-waiting-best.is (lt-ltb _ _ (omega arith))), omega arith)
-      | else-distance-of w ↦ (subst Kept (sym w.best-is) (IsFirstBest-keeps (IsStrictWeakOrder-by_number key) _ _ _ _ _ c.loop-place.invariant.0 c.loop-place-test.true c.index-waiting-place.is c.index-waiting-best.is (le-ltb _ _ (omega arith))), omega arith)
+    elim c.if-distance_of.branch [
+      | then-distance_of w ↦ (subst Kept (sym w.best-is) (IsFirstBest-takes (IsStrictWeakOrder-by_number key) _ _ _ _ _ c.loop-place.invariant.0 c.loop-place-test.true c.index-waiting-place.is c.index-waiting-best.is (lt-ltb _ _ (omega arith))), omega arith)
+      | else-distance_of w ↦ (subst Kept (sym w.best-is) (IsFirstBest-keeps (IsStrictWeakOrder-by_number key) _ _ _ _ _ c.loop-place.invariant.0 c.loop-place-test.true c.index-waiting-place.is c.index-waiting-best.is (le-ltb _ _ (omega arith))), omega arith)
     ]
 
 pub returns : goal.returns

@@ -10,5 +10,5 @@ returns-in-1 c =
 
 pub returns-in-2 : goal.returns-in-2
 returns-in-2 c =
-    let value : c.bad-field-in-2.result ≡ line_check c.args.book c.args.line.now = search rules in
+    let value : c.bad_field-in-2.result ≡ line_check c.args.book c.args.line.now = search rules in
     record { value = value; good = ap (λ n. eqb n 0) value ∙ good c.args.book c.args.line.now }

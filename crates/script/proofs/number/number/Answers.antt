@@ -5,14 +5,14 @@ use Rattle.script.specs.Numbers.{numeral_on}
 use Rattle.script.proofs.Numerals.{numeral_more, numeral_none}
 use Rattle.script.proofs.number.number.Goals as goal
 
-pub returns-in-err-value : goal.returns-in-err-value
-returns-in-err-value c =
-    let e = numeral_none c.loop-byte.value c.args.text.now c.loop-byte.byte-index c.loop-byte-test.true c.in-err-value.ensures in
+pub returns-in_err-value : goal.returns-in_err-value
+returns-in_err-value c =
+    let e = numeral_none c.loop-byte.value c.args.text.now c.loop-byte.byte-index c.loop-byte-test.true c.in_err-value.ensures in
     grind (arith, nat_tests)
 
 pub loop-byte-preserved : goal.loop-byte-preserved
 loop-byte-preserved c =
-    let e = numeral_more c.loop-byte.value c.in-ok-value.value c.args.text.now c.loop-byte.byte-index c.loop-byte-test.true c.in-ok-value.ensures in
+    let e = numeral_more c.loop-byte.value c.in_ok-value.value c.args.text.now c.loop-byte.byte-index c.loop-byte-test.true c.in_ok-value.ensures in
     (e.0, e.1 ∙ c.loop-byte.invariant.1)
 
 pub returns : goal.returns

@@ -8,18 +8,18 @@ use Rattle.settling.specs.Doubts.{any_writer}
 use Rattle.settling.proofs.Writers.{passed, found}
 use Rattle.settling.proofs.doubt.any_writer.Goals as goal
 
-pub returns-then-line-doubted : goal.returns-then-line-doubted
-returns-then-line-doubted g c =
+pub returns-then-line_doubted : goal.returns-then-line_doubted
+returns-then-line_doubted g c =
     let site = seen c.args.view.now in
     let ls = lines_of (modes_in c.args.modes) c.args.x.now in
-    sym (found site c.args.doubt ls c.loop-place.place (ap (λ o. any_writer site c.args.doubt (option_to_list o)) (sym c.line-at.ensures) ∙ sym c.if-line-doubted.ensures))
+    sym (found site c.args.doubt ls c.loop-place.place (ap (λ o. any_writer site c.args.doubt (option_to_list o)) (sym c.line_at.ensures) ∙ sym c.if-line_doubted.ensures))
     ∙ c.loop-place.invariant
 
 pub loop-place-preserved : goal.loop-place-preserved
 loop-place-preserved g c =
     let site = seen c.args.view.now in
     let ls = lines_of (modes_in c.args.modes) c.args.x.now in
-    passed site c.args.doubt ls c.loop-place.place (ap (λ o. any_writer site c.args.doubt (option_to_list o)) (sym c.line-at.ensures) ∙ sym c.if-line-doubted.ensures)
+    passed site c.args.doubt ls c.loop-place.place (ap (λ o. any_writer site c.args.doubt (option_to_list o)) (sym c.line_at.ensures) ∙ sym c.if-line_doubted.ensures)
     ∙ c.loop-place.invariant
 
 pub returns : goal.returns

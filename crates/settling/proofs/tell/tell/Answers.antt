@@ -31,8 +31,8 @@ returns g c =
     let site = seen c.args.view.now in
     let at = ap (λ v. v.site) c.of-origin.ensures.value in
     let kind = c.number.ensures ∙ ap kind_number c.kind_of.ensures in
-    let same = same_messages site (modes_in c.args.modes) c.args.x.now c.args.outcome c.sent-mask.result c.number.result c.of-origin.result.site c.in-Some.line at kind (sym c.in-Some.ensures) c.sent-mask.ensures in
+    let same = same_messages site (modes_in c.args.modes) c.args.x.now c.args.outcome c.sent_mask.result c.number.result c.of-origin.result.site c.in-Some.line at kind (sym c.in-Some.ensures) c.sent_mask.ensures in
     record {
-      did = subst (λ ms. PutOf (g.C.Carrier.waiting c.args.carrier.now) (g.C.Carrier.limit c.args.carrier.now) ms c.send-to.result (g.C.Carrier.waiting c.send-to.new.carrier)) same c.send-to.ensures.did;
-      same = c.send-to.ensures.same;
+      did = subst (λ ms. PutOf (g.C.Carrier.waiting c.args.carrier.now) (g.C.Carrier.limit c.args.carrier.now) ms c.send_to.result (g.C.Carrier.waiting c.send_to.new.carrier)) same c.send_to.ensures.did;
+      same = c.send_to.ensures.same;
     }

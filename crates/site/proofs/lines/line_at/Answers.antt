@@ -12,7 +12,7 @@ returns-in-0-to-3-Some-Some g c =
     let e = c.in-0-to-3-Some-Some.entry in
     let mode = c.in-0-to-3-Some-Some.mode in
     let number : c.args.place + 1 ≡ 1 + c.args.place = omega arith in
-    ap Some c.line-of.ensures
+    ap Some c.line_of.ensures
     ∙ ap (λ n. Some (line_of x.time n c.number.result e)) number
     ∙ ap (λ m. Some (line_of x.time (1 + c.args.place) m e)) c.number.ensures
     ∙ sym (nth_lines x.time 1 c.args.place (mode_number mode) (modes_in c.args.modes) e (few_list x.entries) (nth_map mode_number (few_list c.args.modes) c.args.place mode (sym c.in-0-to-3-Some-Some.ensures)) (sym c.in-0-to-3-Some-Some.ensures'))

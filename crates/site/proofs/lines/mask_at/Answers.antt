@@ -6,6 +6,6 @@ use Rattle.site.proofs.lines.mask_at.Goals as goal
 
 pub returns : goal.returns
 returns g c s h =
-    c.target-mask.ensures s h
+    c.target_mask.ensures s h
     ∙ sym (or_false _)
     ∙ ap (λ line. is_sent c.args.size c.args.cards.now c.args.origin (option_to_list line) s) c.in-Some.ensures

@@ -5,8 +5,8 @@ use Rattle.records.specs.Present.{holds}
 use Rattle.site.proofs.Named.{named_below, holds_dropped}
 use Rattle.site.proofs.masks.without.Goals as goal
 
-pub overflow-shl-result : goal.overflow-shl-result
-overflow-shl-result c = named_below c.args.holders c.args.site (omega arith) (sym c.if-names.ensures)
+pub overflow_shl-result : goal.overflow_shl-result
+overflow_shl-result c = named_below c.args.holders c.args.site (omega arith) (sym c.if-names.ensures)
 
 pub returns-then-names : goal.returns-then-names
 returns-then-names c s =

@@ -9,5 +9,5 @@ use Rattle.starting.proofs.messages.message_count.Goals as goal
 pub returns : goal.returns
 returns g c =
     let modes = modes_in c.args.modes in
-    (λ i. c.count-at-first.ensures.value i + (c.count-at-second.ensures.value i + (c.count-at-third.ensures.value i + c.count-at-fourth.ensures.value i)))
+    (λ i. c.count_at-first.ensures.value i + (c.count_at-second.ensures.value i + (c.count_at-third.ensures.value i + c.count_at-fourth.ensures.value i)))
     ∙ four_take (line_messages c.args.size c.args.cards.now c.args.origin) (lines_of modes c.args.x.now) (four_lines modes c.args.x.now)

@@ -15,11 +15,11 @@ returns g c =
     let l = c.in-Some.line in
     let sends = line_messages c.args.size c.args.cards.now c.args.origin in
     let same =
-    ap (λ k. copies (record { kind = k; from = c.args.origin; to = c.args.origin; line = l }) c.target-mask.result) c.number.ensures
-    ∙ ap (map (addressed (record { kind = 1; from = c.args.origin; to = c.args.origin; line = l }))) (targets_picked c.target-mask.result (goes_to c.args.origin l.mode (card_at c.args.size c.args.cards.now l.card)) c.target-mask.ensures)
+    ap (λ k. copies (record { kind = k; from = c.args.origin; to = c.args.origin; line = l }) c.target_mask.result) c.number.ensures
+    ∙ ap (map (addressed (record { kind = 1; from = c.args.origin; to = c.args.origin; line = l }))) (targets_picked c.target_mask.result (goes_to c.args.origin l.mode (card_at c.args.size c.args.cards.now l.card)) c.target_mask.ensures)
     ∙ sym (append-nil (sends l))
     ∙ ap (λ o. flat_map sends (option_to_list o)) (sym c.in-Some.is) in
     record {
-      did = subst (λ ms. PutOf (g.C.Carrier.waiting c.args.carrier.now) (g.C.Carrier.limit c.args.carrier.now) ms c.send-to.result (g.C.Carrier.waiting c.send-to.new.carrier)) same c.send-to.ensures.did;
-      same = c.send-to.ensures.same;
+      did = subst (λ ms. PutOf (g.C.Carrier.waiting c.args.carrier.now) (g.C.Carrier.limit c.args.carrier.now) ms c.send_to.result (g.C.Carrier.waiting c.send_to.new.carrier)) same c.send_to.ensures.did;
+      same = c.send_to.ensures.same;
     }

@@ -14,23 +14,23 @@ loop-place-preserved g c =
     let sends = line_messages c.args.size c.args.cards.now c.args.origin in
     let ls = lines_of (modes_in c.args.modes) c.args.x.now in
     let i = c.loop-place.place in
-    let next = joined_next sends ls i ∙ ap (λ o. flat_map sends (option_to_list o) ++ flat_map sends (drop (i + 1) ls)) (sym c.line-at.ensures) in
-    (put_more _ _ (flat_map sends (option_to_list c.line-at.result)) _ _ _ c.in-ok-send-line.ensures.did.queue next c.loop-place.invariant.0, c.send-line.ensures.same ∙ c.loop-place.invariant.1)
+    let next = joined_next sends ls i ∙ ap (λ o. flat_map sends (option_to_list o) ++ flat_map sends (drop (i + 1) ls)) (sym c.line_at.ensures) in
+    (put_more _ _ (flat_map sends (option_to_list c.line_at.result)) _ _ _ c.in_ok-send_line.ensures.did.queue next c.loop-place.invariant.0, c.send_line.ensures.same ∙ c.loop-place.invariant.1)
 
-pub returns-then-free-places-message-count : goal.returns-then-free-places-message-count
-returns-then-free-places-message-count g c =
+pub returns-then-free_places-message_count : goal.returns-then-free_places-message_count
+returns-then-free_places-message_count g c =
     let bound = g.met.C.Carrier.bounded c.args.carrier.now in
     record { did = record { why = refl; crowd = omega arith; kept = refl {a = g.C.Carrier.waiting c.args.carrier.now} }; same = refl {a = g.C.Carrier.limit c.args.carrier.now} }
 
 -- The messages fit, so the next line finds its places.
-pub returns-in-err-send-line : goal.returns-in-err-send-line
-returns-in-err-send-line g c =
+pub returns-in_err-send_line : goal.returns-in_err-send_line
+returns-in_err-send_line g c =
     let sends = line_messages c.args.size c.args.cards.now c.args.origin in
     let ls = lines_of (modes_in c.args.modes) c.args.x.now in
     let bound = g.met.C.Carrier.bounded c.args.carrier.now in
     let next = joined_next sends ls c.loop-place.place in
-    let here = ap (λ o. length (flat_map sends (option_to_list o))) c.line-at.ensures in
-    let never : ⊥ = omega (arith, c.in-err-send-line.ensures.did.crowd, simp length-append at (ap length next), simp length-append at (ap length c.loop-place.invariant.0)) in
+    let here = ap (λ o. length (flat_map sends (option_to_list o))) c.line_at.ensures in
+    let never : ⊥ = omega (arith, c.in_err-send_line.ensures.did.crowd, simp length-append at (ap length next), simp length-append at (ap length c.loop-place.invariant.0)) in
     elim never [ ]
 
 pub returns : goal.returns

@@ -14,6 +14,6 @@ returns g c =
     let third = c.before-third.ensures.value (omega arith) in
     let second = c.before-second.ensures.value (omega arith) in
     let first = c.before-2.ensures.value (omega arith) in
-    let from-third = third ∙ (λ i. option_to_list (c.landing-at-2.ensures i) ++ (fourth ∙ (λ j. option_to_list (c.landing_at.ensures j) ++ [])) i) in
-    let from_Second = second ∙ (λ i. option_to_list (c.landing-at-3.ensures i) ++ from-third i) in
-    first ∙ (λ i. option_to_list (c.landing-at-4.ensures i) ++ from_Second i) ∙ sym (lands_by_four (modes_in c.args.modes) c.args.x.now)
+    let from-third = third ∙ (λ i. option_to_list (c.landing_at-2.ensures i) ++ (fourth ∙ (λ j. option_to_list (c.landing_at.ensures j) ++ [])) i) in
+    let from_Second = second ∙ (λ i. option_to_list (c.landing_at-3.ensures i) ++ from-third i) in
+    first ∙ (λ i. option_to_list (c.landing_at-4.ensures i) ++ from_Second i) ∙ sym (lands_by_four (modes_in c.args.modes) c.args.x.now)

@@ -7,6 +7,6 @@ use Rattle.steps.proofs.settle.announce.Goals as goal
 pub returns : goal.returns
 returns g c =
     record {
-      did = subst (λ s. PutOf (g.C.Carrier.waiting c.args.carrier.now) (g.C.Carrier.limit c.args.carrier.now) (verdict_messages s (modes_in c.args.modes) c.args.x.now c.args.outcome) c.tell.result (g.C.Carrier.waiting c.tell.new.carrier)) c.view-of-view.ensures c.tell.ensures.did;
+      did = subst (λ s. PutOf (g.C.Carrier.waiting c.args.carrier.now) (g.C.Carrier.limit c.args.carrier.now) (verdict_messages s (modes_in c.args.modes) c.args.x.now c.args.outcome) c.tell.result (g.C.Carrier.waiting c.tell.new.carrier)) c.view_of-view.ensures c.tell.ensures.did;
       same = c.tell.ensures.same;
     }

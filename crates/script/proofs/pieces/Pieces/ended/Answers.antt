@@ -13,4 +13,4 @@ empty_left s None r e = grind arith
 empty_left s (Some bytes) r e = let some = some_piece s [] bytes.now in grind arith
 
 pub returns : goal.returns
-returns c = empty_left _ c.args.self.now.rest _ c.is-none.ensures
+returns c = empty_left _ c.args.self.now.rest _ c.is_none.ensures

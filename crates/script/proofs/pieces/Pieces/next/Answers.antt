@@ -11,9 +11,9 @@ pub returns : goal.returns
 returns c =
     let before = c.args.self.now in
     let s = before.separator in
-    let bytes = c.in-ok-rest.rest.now in
+    let bytes = c.in_ok-rest.rest.now in
     let end = c.end-end.result in
-    let after : Pieces = record { separator = s; rest = c.if-end-rest.self; place = c.saturating-add-self.result } in
+    let after : Pieces = record { separator = s; rest = c.if-end-rest.self; place = c.saturating_add-self.result } in
     let text : Some (take end bytes) ≡ head (left before) = grind arith in
     let rest : left after ≡ others (left before) = elim c.if-end-rest.branch [
       | then-end-rest w ↦
@@ -26,5 +26,5 @@ returns c =
       text = text;
       rest = rest;
       place = grind arith;
-      part = part before after (take end bytes) text rest refl c.saturating-add-self.ensures;
+      part = part before after (take end bytes) text rest refl c.saturating_add-self.ensures;
     }
