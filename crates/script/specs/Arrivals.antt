@@ -1,13 +1,14 @@
 -- The lines of the arrivals script. Assumes nothing.
-use Rattle.std.specs.Prelude.{ℕ, List, Result}
+use Rattle.std.specs.Prelude.{ℕ, cond, List, length, Err, Result, nat_le}
 use Rattle.script.specs.declared.arrival.Arrival.{Arrival}
 use Rattle.script.specs.declared.arrival.Arrival.TheVariants.{Opening, Line, Verdict, Value}
 use Rattle.script.specs.declared.word.Word.{Word}
 use Rattle.script.specs.declared.word.Word.TheVariants.{Opening as opening_word, Line as line_word, Verdict as verdict_word, Value as value_word}
 use Rattle.script.specs.Dates.{date_text}
-use Rattle.script.specs.Forms.{Form, ends, wants, line_parsed}
+use Rattle.script.specs.Forms.{Form, ends, wants, parsed}
 use Rattle.script.specs.Numbers.{numeral}
 use Rattle.script.specs.Outcomes.{outcome_text}
+use Rattle.script.specs.Pieces.{fields}
 use Rattle.script.specs.Words.{word_of}
 
 -- What follows each word.
@@ -30,8 +31,6 @@ fields_after line_word = line_form
 fields_after verdict_word = verdict_form
 fields_after value_word = value_form
 
-abbrev pub arrival_fields : Form Arrival
-arrival_fields = wants word_of fields_after
-
+-- A line of at most 80 bytes, its fields parted by tabs; if it has no form, the place of its first bad field.
 abbrev pub arrival_form : List ℕ → Result Arrival ℕ
-arrival_form line = line_parsed arrival_fields line
+arrival_form line = cond (nat_le (length line) 80) (parsed (wants word_of fields_after) 1 (fields line)) (Err 1)

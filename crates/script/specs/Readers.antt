@@ -38,6 +38,6 @@ Part separator bs (Some piece) = slice_get (pieces separator bs) (piece.place - 
 
 -- Of bytes with fewer than 2 ^ 32 pieces, each piece that is handed out is the part at its place, and the reader reads on.
 abbrev pub Parts : Pieces → Option Piece → Pieces → Type 0
-Parts before HandedOut after =
+Parts before handed_out after =
     (bs : List ℕ) → length (pieces before.separator bs) < 2 ^ 32 → Reads before bs
-    → Part before.separator bs HandedOut × Reads after bs
+    → Part before.separator bs handed_out × Reads after bs

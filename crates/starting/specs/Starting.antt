@@ -1,5 +1,5 @@
 -- Starting a transaction at its origin. Assumes nothing.
-use Rattle.std.specs.Prelude.{ℕ, ◌+◌, Bool, true, false, cond, not, ◌||◌, List, [], ◌∷◌, map, length, Some, None, Ok, Err, Option, Result, ◌==◌, nat_le, nat_lt}
+use Rattle.std.specs.Prelude.{ℕ, ◌+◌, Bool, cond, ◌||◌, List, [], ◌∷◌, map, length, Some, None, Ok, Err, Option, Result, ◌==◌, nat_le, nat_lt}
 use Rattle.std.specs.List.{flat_map}
 use Rattle.terms.specs.declared.few.Few.{Few}
 use Rattle.terms.specs.declared.few.Few.TheVariants.{Nothing, One, Two, Three, Four}

@@ -1,5 +1,5 @@
 -- The lines of a rule with the cards that a start names for them. Assumes nothing.
-use Rattle.std.specs.Prelude.{◌≡◌, ℕ, List, [], ◌∷◌, map, length, Some, None, Option}
+use Rattle.std.specs.Prelude.{◌≡◌, ℕ, List, map, length, Some, None, Option}
 use Rattle.terms.specs.declared.few.Few.{Few}
 use Rattle.terms.specs.Few.{few_list}
 use Rattle.terms.specs.Modes.{mode_number}

@@ -1,4 +1,4 @@
-use Rattle.std.proofs.Common.{◌+◌, ap, ◌∙◌}
+use Rattle.std.proofs.Common.{◌+◌, ◌∙◌}
 use Rattle.book.specs.Meaning.{modes_in}
 use Rattle.site.specs.Lines.{lines_of}
 use Rattle.site.proofs.Places.{four_lines}
