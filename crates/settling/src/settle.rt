@@ -1,7 +1,7 @@
 // Settling one of the site's own transactions.
-ghost use Rattle.std.specs.Prelude.{◌≡◌, length};
+ghost use Rattle.std.specs.Prelude.{◌≡◌, length, is_some};
 ghost use Rattle.book.specs.Meaning.{modes_in};
-ghost use Rattle.knowledge.specs.Knowledge.{seen};
+ghost use Rattle.knowledge.specs.Knowledge.{seen, known};
 ghost use Rattle.settling.specs.Settling.{doubted, due, told_sites, settlement};
 
 use crate::doubt::{Doubt, any_mark, any_writer};
@@ -47,6 +47,13 @@ fn told_count<V: Copy>(view: &View<'_, V>, x: &Transaction<V>, modes: Few<Mode>)
     ))
 }
 
+// Whether a verdict of the transaction is known.
+fn is_settled<V: Copy>(view: &View<'_, V>, x: &Transaction<V>) -> bool
+    ensures { result ≡ is_some (known (seen view.now) x.now.time) }
+{
+    view.known(x.time).is_some()
+}
+
 // The outcome to which a transaction of this site is settled, or why it cannot be: `free` says whether a verdict record
 // is free, `places` how many places of the carrier are.
 pub fn settle<V: Copy>(
@@ -58,7 +65,7 @@ pub fn settle<V: Copy>(
 ) -> Result<Outcome, SiteFault>
     ensures { result ≡ settlement (seen view.now) free places (modes_in modes) x.now }
 {
-    if view.known(x.time).is_some() {
+    if is_settled(view, x) {
         return Err(SiteFault::NotOpen);
     }
     let Some(outcome) = outcome_due(view, x, modes) else {
