@@ -1,7 +1,6 @@
 -- What is answered to each line of the arrivals script. Assumes nothing.
 use Rattle.std.specs.Prelude.{ℕ, ◌+◌, ◌-◌, ◌^◌, min, cond, Some, None, Ok, Err, Option, Result}
 use Rattle.records.specs.declared.line.Line as records_line
-use Rattle.records.specs.declared.verdict.Verdict as records_verdict
 use Rattle.books.specs.declared.date.Date.{Date}
 use Rattle.script.specs.declared.arrival.Arrival.{Arrival}
 use Rattle.script.specs.declared.arrival.Arrival.TheVariants.{Opening, Line, Verdict, Value}

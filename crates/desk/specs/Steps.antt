@@ -1,5 +1,5 @@
 -- What the primary of one card does with what arrives. Assumes nothing.
-use Rattle.std.specs.Prelude.{ℕ, Bool, true, false, cond, ◌&&◌, List, [], ◌∷◌, ◌++◌, length, is_some, Ok, Err, vec_items, Result, nat_le, nat_lt}
+use Rattle.std.specs.Prelude.{Bool, cond, ◌&&◌, [], ◌∷◌, ◌++◌, length, is_some, Ok, Err, vec_items, Result, nat_le, nat_lt}
 use Rattle.records.specs.declared.line.Line.{Line}
 use Rattle.records.specs.declared.size.Size.{Size}
 use Rattle.records.specs.declared.verdict.Verdict.{Verdict}

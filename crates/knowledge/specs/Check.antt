@@ -1,5 +1,5 @@
 -- The primary's check of a line. Assumes nothing.
-use Rattle.std.specs.Prelude.{ℕ, Bool, true, false, not, ◌&&◌, ◌||◌, List, [], ◌∷◌, map, filter, ◌==◌, nat_lt}
+use Rattle.std.specs.Prelude.{ℕ, Bool, false, not, ◌&&◌, ◌||◌, List, map, filter, ◌==◌, nat_lt}
 use Rattle.records.specs.declared.line.Line.{Line}
 use Rattle.terms.specs.Lists.{none}
 use Rattle.terms.specs.Modes.{reads, writes}
@@ -7,7 +7,7 @@ use Rattle.records.specs.Present.{line_present}
 use Rattle.knowledge.specs.declared.check.Guess.{Guess}
 use Rattle.knowledge.specs.declared.check.Guess.TheVariants.{ReadLatest, NoConflict}
 use Rattle.knowledge.specs.Knowledge.{Site, known, stands}
-use Rattle.knowledge.specs.Versions.{written, version_of, versions}
+use Rattle.knowledge.specs.Versions.{written, versions}
 
 -- A reservation runs from the time that a line read to the line's time.
 pub record Reservation : Type 0 where

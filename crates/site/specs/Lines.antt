@@ -1,5 +1,5 @@
 -- A transaction's lines, and where they go. Assumes nothing.
-use Rattle.std.specs.Prelude.{ℕ, ◌+◌, Bool, true, false, cond, not, ◌&&◌, ◌||◌, List, [], ◌∷◌, Some, None, filter, Option, ◌==◌}
+use Rattle.std.specs.Prelude.{ℕ, ◌+◌, Bool, false, cond, not, ◌&&◌, ◌||◌, List, [], ◌∷◌, Some, None, filter, Option, ◌==◌}
 use Rattle.std.specs.List.{range_with_len}
 use Rattle.terms.specs.Few.{few_list}
 use Rattle.terms.specs.Modes.{writes}

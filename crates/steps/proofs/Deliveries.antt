@@ -44,10 +44,10 @@ module _ {V : Type 0} (room : Room) where
   Fitting (Err fault) = Unit {0}
 
   fits_of : (site : Site V) (own : Option (Transaction V)) (kind : Option Kind) (m : Message V) → Fitting (delivery_of site room own kind m)
-  fits_of site own None m = tt
-  fits_of site own (Some kind) m =
-      cond_both (in_range site.size m && expected site own kind m) _ _ Fitting
-      (λ _. cond_both (fits room (effect_of site own kind m)) _ _ Fitting (λ some. some) (λ _. tt))
+  fits_of site x None m = tt
+  fits_of site x (Some kind) m =
+      cond_both (in_range site.size m && expected site x kind m) _ _ Fitting
+      (λ _. cond_both (fits room (effect_of site x kind m)) _ _ Fitting (λ some. some) (λ _. tt))
       (λ _. tt)
 
 module _ {V : Type 0} (used : Used) (lines : List (Line V)) (verdicts : List Verdict) (m : Message V) where

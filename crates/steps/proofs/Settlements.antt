@@ -9,11 +9,11 @@ use Rattle.records.specs.declared.line.Line.{Line}
 use Rattle.records.specs.declared.message.Message.{Message}
 use Rattle.records.specs.declared.transaction.Transaction.{Transaction}
 use Rattle.records.specs.declared.verdict.Verdict.{Verdict}
-use Rattle.knowledge.specs.Knowledge.{Site, known}
+use Rattle.knowledge.specs.Knowledge.{known}
 use Rattle.site.specs.declared.fault.SiteFault.{SiteFault}
 use Rattle.site.specs.Lines.{lines_of}
 use Rattle.site.specs.Tables.{Extends}
-use Rattle.settling.specs.Settling.{due, told_sites, verdict_kind, repeating, verdict_messages, settling, settlement}
+use Rattle.settling.specs.Settling.{due, told_sites, verdict_kind, repeating, settling, settlement}
 use Rattle.steps.specs.Handed.{Handed, site_of}
 use Rattle.steps.specs.Numbers.{stopped}
 use Rattle.steps.specs.Settle.{settle_decided, settle_puts, SettleDone}

@@ -1,5 +1,5 @@
 -- What holds of a start that is accepted. Assumes nothing.
-use Rattle.std.proofs.Common.{◌≡◌, ℕ, suc, ◌+◌, ◌-◌, ◌<◌, ◌≤◌, true, false, cond, eqb, ltb, List, [], ◌∷◌, ◌++◌, length, Some, None, Ok, Err, Option, Result, sym, refl, ap, ◌∙◌, subst, arith}
+use Rattle.std.proofs.Common.{◌≡◌, ℕ, suc, ◌+◌, ◌-◌, ◌<◌, ◌≤◌, eqb, ltb, List, [], ◌∷◌, ◌++◌, length, Some, None, Ok, Err, Option, Result, sym, refl, ap, ◌∙◌, subst, arith}
 use Rattle.std.proofs.lemmas.List.{length-append}
 use Rattle.std.proofs.lemmas.Bool.{cond_both, ltb-true}
 use Rattle.std.proofs.lemmas.Bool.Decides.{nat_tests}
@@ -20,7 +20,7 @@ use Rattle.starting.specs.declared.start.Room.{Room}
 use Rattle.starting.specs.Drafting.{cards_fault}
 use Rattle.starting.specs.Landing.{is_denied, landing_from, start_landing}
 use Rattle.starting.specs.Reading.{values_read}
-use Rattle.starting.specs.Starting.{start_messages, next_time, no_records, if_places, answered, unless_fault, checked, ruled, timed, start_answer}
+use Rattle.starting.specs.Starting.{start_messages, next_time, no_records, if_places, answered, unless_fault, ruled, timed, start_answer}
 use Rattle.steps.specs.Handed.{Handed, site_of}
 use Rattle.steps.specs.Numbers.{stopped}
 use Rattle.steps.specs.Start.{start_room, start_decided, start_puts, StartDone}

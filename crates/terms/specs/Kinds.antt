@@ -1,6 +1,5 @@
 -- The kinds of messages, and the marks that they leave. Assumes nothing.
 use Rattle.std.specs.Prelude.{ℕ, [], ◌∷◌, Option}
-use Rattle.terms.specs.declared.kind.Kind as kinds
 use Rattle.terms.specs.declared.kind.Kind.{Kind}
 use Rattle.terms.specs.declared.kind.Kind.TheVariants.{Line, Confirm, Deny, Commit, Abort}
 use Rattle.terms.specs.declared.mark.Mark.{Mark}

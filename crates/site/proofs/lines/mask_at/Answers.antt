@@ -1,4 +1,4 @@
-use Rattle.std.proofs.Common.{false, ◌||◌, sym, ap, ◌∙◌}
+use Rattle.std.proofs.Common.{sym, ap, ◌∙◌}
 use Rattle.std.specs.Option.{option_to_list}
 use Rattle.site.specs.Lines.{is_sent}
 use Rattle.site.proofs.Places.{or_false}

@@ -1,6 +1,4 @@
-use Rattle.std.proofs.Common.{sym, ap, ◌∙◌}
 use Rattle.book.specs.Meaning.{modes_in}
-use Rattle.terms.specs.Few.{few_list}
 use Rattle.site.proofs.Places.{sent_by_four}
 use Rattle.site.proofs.lines.sent_mask.Goals as goal
 

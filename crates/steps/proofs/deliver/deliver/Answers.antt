@@ -1,4 +1,4 @@
-use Rattle.std.proofs.Common.{◌≡◌, ◌-◌, length, sym, refl, ap, ◌∙◌, arith}
+use Rattle.std.proofs.Common.{◌-◌, length, sym, refl, ap, ◌∙◌, arith}
 use Rattle.delivering.specs.Owns.{remarked}
 use Rattle.steps.specs.Handed.{handed}
 use Rattle.steps.specs.Numbers.{stopped}

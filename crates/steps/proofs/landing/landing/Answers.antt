@@ -1,6 +1,5 @@
-use Rattle.std.proofs.Common.{◌≡◌, [], ◌++◌, sym, ◌∙◌, arith}
+use Rattle.std.proofs.Common.{[], ◌++◌, sym, ◌∙◌, arith}
 use Rattle.std.specs.Option.{option_to_list}
-use Rattle.terms.specs.Few.{few_list}
 use Rattle.book.specs.Meaning.{modes_in}
 use Rattle.steps.proofs.Landed.{lands_by_four}
 use Rattle.steps.proofs.landing.landing.Goals as goal

@@ -1,4 +1,4 @@
-use Rattle.std.proofs.Common.{◌≡◌, ◌-◌, ◌++◌, length, sym, refl, ap, ◌∙◌, arith}
+use Rattle.std.proofs.Common.{◌-◌, ◌++◌, length, sym, refl, ap, ◌∙◌, arith}
 use Rattle.settling.specs.Settling.{verdict_messages}
 use Rattle.steps.specs.Handed.{handed, site_of}
 use Rattle.steps.specs.Numbers.{stopped}

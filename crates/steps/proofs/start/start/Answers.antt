@@ -1,4 +1,4 @@
-use Rattle.std.proofs.Common.{◌≡◌, ◌-◌, ◌++◌, length, Ok, sym, refl, ap, ◌∙◌, subst, arith}
+use Rattle.std.proofs.Common.{◌-◌, ◌++◌, length, sym, refl, ap, ◌∙◌, subst, arith}
 use Rattle.site.specs.Tables.{Extends}
 use Rattle.starting.specs.Landing.{start_landing}
 use Rattle.starting.specs.Starting.{start_messages}

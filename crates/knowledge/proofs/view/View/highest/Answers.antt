@@ -1,4 +1,4 @@
-use Rattle.std.proofs.Common.{[], ◌++◌, map, is_some, Some, None, filter, sym, refl, ap, ◌∙◌}
+use Rattle.std.proofs.Common.{◌++◌, map, is_some, Some, filter, sym, refl, ap, ◌∙◌}
 use Rattle.std.proofs.lemmas.List.{at_drop_all}
 use Rattle.knowledge.specs.Knowledge.{seen}
 use Rattle.knowledge.specs.Versions.{written, version_of, opening_versions, highest}
