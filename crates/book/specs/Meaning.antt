@@ -1,6 +1,6 @@
 -- What a book tells of its rules. Assumes nothing.
 use Rattle.std.specs.Prelude.{◌≡◌, ℕ, ◌+◌, ◌≤◌, cond, List, [], ◌∷◌, map, length, Ok, Err, Result}
-use Rattle.std.specs.List.{AllByRecursion as All}
+use Rattle.std.specs.List.{AllByRecursion}
 use Rattle.terms.specs.Few.{few_list}
 use Rattle.terms.specs.Modes.{mode_number, writes}
 use Rattle.terms.specs.declared.few.Few.{Few}
@@ -21,7 +21,7 @@ modes_in modes = map mode_number (few_list modes)
 
 -- Each mode is 1, 2 or 3.
 abbrev pub ModesKnown : List ℕ → Type 0
-ModesKnown modes = All (λ mode. (1 ≤ mode) × (mode ≤ 3)) modes
+ModesKnown modes = AllByRecursion (λ mode. (1 ≤ mode) × (mode ≤ 3)) modes
 
 -- How many lines of these modes write.
 abbrev pub written_lines : List ℕ → ℕ

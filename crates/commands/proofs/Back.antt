@@ -1,6 +1,6 @@
 -- A command that was written is read again. Assumes nothing.
 use Rattle.std.proofs.Common.{◌≡◌, ℕ, ◌≤◌, Bool, true, not, ◌&&◌, eqb, leb, List, [], ◌∷◌, map, length, Some, Ok, codes, decimal, Option, refl, ap, ◌∙◌, arith}
-use Rattle.std.specs.List.{AllByRecursion as All}
+use Rattle.std.specs.List.{AllByRecursion}
 use Rattle.std.proofs.lemmas.Bool.{cond-true, le-leb}
 use Rattle.std.proofs.lemmas.Bool.Decides.{nat_tests}
 use Rattle.terms.specs.Few.{few_list}
@@ -24,7 +24,7 @@ lacks_without : (s : ℕ) (bs : List ℕ) → without s bs ≡ true → Lacks s 
 lacks_without s [] e = tt
 lacks_without s (b ∷ bs) e = (λ (is : b ≡ s). grind (arith, nat_tests), lacks_without s bs (grind (arith, nat_tests)))
 
-numbers_lack : (ns : List ℕ) → In32Bits ns → All (Lacks 9) (map decimal ns)
+numbers_lack : (ns : List ℕ) → In32Bits ns → AllByRecursion (Lacks 9) (map decimal ns)
 numbers_lack [] fits = tt
 numbers_lack (n ∷ ns) fits = (lacks_decimal 9 n (λ a b. omega arith) fits.0, numbers_lack ns fits.1)
 
@@ -56,7 +56,7 @@ module _ {V : Type 0} (told : List ℕ → Option V) where
     four_read d e f h i j k l r s t u = cc
 
 module _ {V : Type 0} (told : List ℕ → Option V) (text : V → List ℕ) (fits : V → Type 0) (value_back : (v : V) → fits v → told (text v) ≡ Some v) (value_lacks : (v : V) → fits v → Lacks 9 (text v)) where
-  fields_lack : (command : Command V) → CommandFits fits command → All (Lacks 9) (fields_of text command)
+  fields_lack : (command : Command V) → CommandFits fits command → AllByRecursion (Lacks 9) (fields_of text command)
   fields_lack (Sites count transactions) h = (lacks_without 9 (codes "sites") refl, numbers_lack (count ∷ transactions ∷ []) h)
   fields_lack (Card holders primary opening) h = (lacks_without 9 (codes "card") refl, (lacks_decimal 9 holders (λ a b. omega arith) h.0.0, (lacks_decimal 9 primary (λ a b. omega arith) h.0.1.0, (value_lacks opening h.1, tt))))
   fields_lack Open h = (lacks_without 9 (codes "open") refl, tt)
@@ -109,7 +109,7 @@ module _ {V : Type 0} (told : List ℕ → Option V) (text : V → List ℕ) (fi
   some_field (Value site card) = omega arith
   some_field Close = omega arith
 
-  cut_again : (ps : List (List ℕ)) → 1 ≤ length ps → All (Lacks 9) ps → pieces 9 (joined 9 ps) ≡ ps
+  cut_again : (ps : List (List ℕ)) → 1 ≤ length ps → AllByRecursion (Lacks 9) ps → pieces 9 (joined 9 ps) ≡ ps
   cut_again [] some lacks = absurd (omega arith)
   cut_again (p ∷ ps) some lacks = pieces_joined 9 p ps lacks.0 lacks.1
 

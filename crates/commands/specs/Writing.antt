@@ -1,6 +1,6 @@
 -- How a command is written as a line. Assumes nothing.
 use Rattle.std.specs.Prelude.{◌≡◌, ℕ, ◌^◌, ◌<◌, ◌≤◌, List, [], ◌∷◌, map, length, Ok, codes, decimal, Result}
-use Rattle.std.specs.List.{AllByRecursion as All}
+use Rattle.std.specs.List.{AllByRecursion}
 use Rattle.terms.specs.Few.{few_list}
 use Rattle.script.specs.Pieces.{joined}
 use Rattle.commands.specs.declared.command.Command.{Command}
@@ -22,7 +22,7 @@ abbrev pub written : {V : Type 0} → (V → List ℕ) → Command V → List �
 written text command = joined 9 (fields_of text command)
 
 abbrev pub In32Bits : List ℕ → Type 0
-In32Bits ns = All (λ n. n < 2 ^ 32) ns
+In32Bits ns = AllByRecursion (λ n. n < 2 ^ 32) ns
 
 -- The numbers and the value of a command have their bits, and a start names a card.
 abbrev pub CommandFits : {V : Type 0} → (V → Type 0) → Command V → Type 0

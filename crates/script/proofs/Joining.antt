@@ -1,6 +1,6 @@
 -- Bytes cut into pieces, and pieces put together again. Assumes nothing.
 use Rattle.std.proofs.Common.{◌≡◌, ℕ, eqb, List, [], ◌∷◌, ◌++◌, sym, refl, ap, ◌∙◌, subst, ⊎_elim, append_assoc, append-nil}
-use Rattle.std.specs.List.{AllByRecursion as All}
+use Rattle.std.specs.List.{AllByRecursion}
 use Rattle.std.proofs.lemmas.Bool.{cases_eq, cond-true, cond-false, eq-eqb, ne_eqb}
 use Rattle.script.specs.Pieces.{pieces, pieces_on, joined, Lacks, Cut}
 
@@ -42,12 +42,12 @@ module _ (s : ℕ) where
   lacks_push [] b l ne = (ne, tt)
   lacks_push (c ∷ cs) b l ne = (l.0, lacks_push cs b l.1 ne)
 
-  parted_on : (begun bs : List ℕ) → Lacks s begun → All (Lacks s) (pieces_on s begun bs)
+  parted_on : (begun bs : List ℕ) → Lacks s begun → AllByRecursion (Lacks s) (pieces_on s begun bs)
   parted_on begun [] l = (l, tt)
   parted_on begun (b ∷ bs) l =
       ⊎_elim
-      (λ (e : b ≡ s). subst (All (Lacks s)) (sym (on_separator begun b bs e)) (l, parted_on [] bs tt))
-      (λ (ne : b ≡ s → ⊥). subst (All (Lacks s)) (sym (on_other begun b bs ne)) (parted_on (begun ++ b ∷ []) bs (lacks_push begun b l ne)))
+      (λ (e : b ≡ s). subst (AllByRecursion (Lacks s)) (sym (on_separator begun b bs e)) (l, parted_on [] bs tt))
+      (λ (ne : b ≡ s → ⊥). subst (AllByRecursion (Lacks s)) (sym (on_other begun b bs ne)) (parted_on (begun ++ b ∷ []) bs (lacks_push begun b l ne)))
       (cases_eq b s)
 
   pub cut : (bs : List ℕ) → Cut s bs
@@ -59,7 +59,7 @@ module _ (s : ℕ) where
       on_other begun b (p ++ rest) l.0 ∙ past_lacking (begun ++ b ∷ []) p rest l.1 ∙ ap (λ x. pieces_on s x rest) (append_assoc begun (b ∷ []) p)
 
   -- pieces without the separator that were put together are cut apart again
-  pub pieces_joined : (p : List ℕ) (ps : List (List ℕ)) → Lacks s p → All (Lacks s) ps → pieces s (joined s (p ∷ ps)) ≡ p ∷ ps
+  pub pieces_joined : (p : List ℕ) (ps : List (List ℕ)) → Lacks s p → AllByRecursion (Lacks s) ps → pieces s (joined s (p ∷ ps)) ≡ p ∷ ps
   pieces_joined p [] l ls = ap (pieces s) (sym (append-nil p)) ∙ past_lacking [] p [] l
   pieces_joined p (q ∷ ps) l ls =
       past_lacking [] p (s ∷ joined s (q ∷ ps)) l ∙ on_separator p s (joined s (q ∷ ps)) refl ∙ ap (λ x. p ∷ x) (pieces_joined q ps ls.0 ls.1)

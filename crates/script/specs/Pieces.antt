@@ -1,6 +1,6 @@
 -- Bytes cut at each separator. Assumes nothing.
 use Rattle.std.specs.Prelude.{◌≡◌, ℕ, Bool, true, false, cond, List, [], ◌∷◌, ◌++◌, Some, None, Option, ◌==◌, ◌≢◌}
-use Rattle.std.specs.List.{AllByRecursion as All}
+use Rattle.std.specs.List.{AllByRecursion}
 
 -- The pieces of some bytes, of which the first has begun already.
 abbrev pub pieces_on : ℕ → List ℕ → List ℕ → List (List ℕ)
@@ -41,9 +41,9 @@ joined separator (p ∷ q ∷ ps) = p ++ separator ∷ joined separator (q ∷ p
 
 -- The separator is not among the bytes.
 abbrev pub Lacks : ℕ → List ℕ → Type 0
-Lacks separator bs = All (λ b. b ≢ separator) bs
+Lacks separator bs = AllByRecursion (λ b. b ≢ separator) bs
 
 -- The pieces of some bytes are all of these bytes but the separators between them.
 pub record Cut (separator : ℕ) (bs : List ℕ) : Type 0 where
   pub whole : joined separator (pieces separator bs) ≡ bs
-  pub parted : All (Lacks separator) (pieces separator bs)
+  pub parted : AllByRecursion (Lacks separator) (pieces separator bs)

@@ -5,7 +5,7 @@ use lib.Bits.{bit_or, bit_xor, or_step, or_shr, xor_step, xor_shr, differ}
 use lib.Pow.{pow-lt}
 use Rattle.std.proofs.lemmas.Bool.{cases_order, cases_lt, eq-eqb, ne_eqb, eqb-true}
 use Rattle.std.proofs.lemmas.Bool.Decides.{nat_tests}
-use Rattle.std.specs.List.{range_with_len, AllByRecursion as All}
+use Rattle.std.specs.List.{range_with_len, AllByRecursion}
 use Rattle.records.specs.Present.{holds}
 use Rattle.records.proofs.Masks.{past_mask, shifted_out}
 use Rattle.carrier.specs.Sending.{targets}
@@ -82,7 +82,7 @@ named_below m s fits named =
     (λ (l : 32 ≤ s). let none = shifted_out m s (past_mask m s fits l) in grind (arith, nat_tests))
     (cases_lt s 32)
 
-kept_same : {X : Type 0} (p q : X → Bool) (xs : List X) → All (λ x. p x ≡ q x) xs → filter p xs ≡ filter q xs
+kept_same : {X : Type 0} (p q : X → Bool) (xs : List X) → AllByRecursion (λ x. p x ≡ q x) xs → filter p xs ≡ filter q xs
 kept_same p q [] h = refl
 kept_same p q (x ∷ xs) h = ap (λ b. cond b (x ∷ filter p xs) (filter p xs)) h.0 ∙ ap (λ ys. cond (q x) (x ∷ ys) ys) (kept_same p q xs h.1)
 
