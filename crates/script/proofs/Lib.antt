@@ -1,3 +1,4 @@
+pub mod Emptied
 pub mod Joining
 pub mod Keeping
 pub mod Numerals

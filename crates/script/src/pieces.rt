@@ -66,6 +66,7 @@ impl<'a> Pieces<'a> {
     }
 
     // Whether no piece is left.
+    #[tactic(auto, using(crate::proofs::Emptied::empty_left))]
     pub fn ended(&self) -> bool
         ensures { result ≡ empty (left self.now) }
     {
