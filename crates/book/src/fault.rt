@@ -1,7 +1,7 @@
 // A book's refusal.
-use terms::fault::Fault;
+use terms::fault::{Fault, Refusal};
 
-// The book declines, for the reason that its code names.
+// The book declines, for the reason that its code names: a number, since each book has reasons of its own.
 #[derive(Clone, Copy, Debug, PartialEq, Eq)]
 pub struct BookFault {
     pub code: u32,
@@ -10,15 +10,10 @@ pub struct BookFault {
 impl Fault for BookFault {
     ghost told = { λ f. record { number = 11; line = 0; code = f.code } };
 
-    fn number(&self) -> u32 {
-        11
-    }
-
-    fn line(&self) -> u32 {
-        0
-    }
-
-    fn code(&self) -> u32 {
-        self.code
+    fn refusal(&self) -> Refusal {
+        Refusal {
+            code: self.code,
+            ..Refusal::plain(11)
+        }
     }
 }

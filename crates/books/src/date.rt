@@ -1,22 +1,40 @@
 // Dates and the date book: cards that are set, filled, made earlier and compared.
-ghost use Rattle.std.specs.Prelude.{◌≡◌};
-ghost use Rattle.book.specs.Meaning.{answer_of};
-ghost use Rattle.terms.specs.Few.{few_list};
-ghost use Rattle.books.specs.Dates.{is_blank, days_in, lawful, date_key, earlier, DateOrder, out_of_order, dates_modes, dates_answer};
+ghost use Rattle.std.specs.Prelude.{◌≡◌, ok_or};
+ghost use Rattle.std.specs.Result.{result_ok};
 ghost use Rattle.std.proofs.Common.{rules};
+ghost use Rattle.terms.specs.Few.{few_list};
+ghost use Rattle.book.specs.Meaning.{answer_of, modes_in};
+ghost use Rattle.books.specs.Answers.{answer_by};
+ghost use Rattle.books.specs.Dates.{is_blank, days_in, lawful, date_key, date_of, earlier, DateOrder, out_of_order, date_code, date_rule, rule_modes, dates_modes, rule_answer, dates_answer};
+ghost use Rattle.books.specs.declared.date.DateRefusal.TheVariants.{UnknownRule};
 
-use crate::card::value_at;
 use book::fault::BookFault;
 use book::rules::RuleBook;
 use std::fmt;
+use std::num::TryFromIntError;
 use terms::few::Few;
 use terms::mode::Mode;
 
-const UNKNOWN_RULE: BookFault = BookFault { code: 0 };
+// Why the book declines.
+#[derive(Clone, Copy, Debug, PartialEq, Eq)]
+pub enum DateRefusal {
+    UnknownRule,
+    UnlawfulArgument,
+    OutOfOrder,
+}
 
-const UNLAWFUL_ARGUMENT: BookFault = BookFault { code: 3 };
+impl From<DateRefusal> for BookFault {
+    ghost from_gives = { λ refusal fault. fault.code ≡ date_code refusal };
 
-const OUT_OF_ORDER: BookFault = BookFault { code: 5 };
+    fn from(refusal: DateRefusal) -> BookFault {
+        let code = match refusal {
+            DateRefusal::UnknownRule => 0,
+            DateRefusal::UnlawfulArgument => 3,
+            DateRefusal::OutOfOrder => 5,
+        };
+        BookFault { code }
+    }
+}
 
 // All zero is blank.
 #[derive(Clone, Copy, Debug, PartialEq, Eq)]
@@ -36,7 +54,7 @@ impl Date {
     pub fn is_blank(self) -> bool
         ensures { result ≡ is_blank self }
     {
-        self.year == 0 && self.month == 0 && self.day == 0
+        self == Date::BLANK
     }
 
     // Whether a rule takes it as an argument.
@@ -53,7 +71,8 @@ impl Date {
         }
     }
 
-    // Whether it comes before another; a blank counts as the last of all.
+    // Whether it comes before another; a blank counts as the last of all. This is no `Ord`, whose laws hold of any
+    // numbers: the key tells two dates apart only within their bits.
     pub fn earlier_than(self, other: Date) -> bool
         ensures value { result ≡ earlier self other }
         ensures order { DateOrder }
@@ -69,6 +88,21 @@ impl Date {
         } else {
             (self.year as u64 * 256 + self.month as u64) * 256 + self.day as u64
         }
+    }
+}
+
+// The date of a year, a month and a day.
+impl TryFrom<(u32, u32, u32)> for Date {
+    type Error = TryFromIntError;
+
+    ghost try_from_gives = { λ numbers date. result_ok date ≡ date_of numbers.0 numbers.1 numbers.2 };
+
+    fn try_from((year, month, day): (u32, u32, u32)) -> Result<Date, TryFromIntError> {
+        Ok(Date {
+            year: year.try_into()?,
+            month: month.try_into()?,
+            day: day.try_into()?,
+        })
     }
 }
 
@@ -96,9 +130,63 @@ fn out_of_order(first: Date, second: Date) -> bool
     !first.is_blank() && !second.is_blank() && second.earlier_than(first)
 }
 
+#[derive(Clone, Copy, Debug, PartialEq, Eq)]
+pub enum DateRule {
+    Set,
+    Fill,
+    Earlier,
+    Compare,
+}
+
+impl TryFrom<u32> for DateRule {
+    type Error = DateRefusal;
+
+    ghost try_from_gives = { λ number rule. rule ≡ ok_or (date_rule number) UnknownRule };
+
+    fn try_from(number: u32) -> Result<DateRule, DateRefusal> {
+        match number {
+            1 => Ok(DateRule::Set),
+            2 => Ok(DateRule::Fill),
+            3 => Ok(DateRule::Earlier),
+            4 => Ok(DateRule::Compare),
+            _ => Err(DateRefusal::UnknownRule),
+        }
+    }
+}
+
+impl DateRule {
+    fn modes(self) -> Few<Mode>
+        ensures { modes_in result ≡ rule_modes self }
+    {
+        match self {
+            DateRule::Set => Few::One(Mode::Write),
+            DateRule::Fill | DateRule::Earlier => Few::One(Mode::Update),
+            DateRule::Compare => Few::Two(Mode::Read, Mode::Read),
+        }
+    }
+
+    // The dates to write, from an argument and the first two dates read.
+    fn answer(self, argument: Date, first: Date, second: Date) -> Result<Few<Date>, DateRefusal>
+        ensures { answer_by date_code result ≡ rule_answer self argument first second }
+    {
+        if !argument.is_lawful() {
+            return Err(DateRefusal::UnlawfulArgument);
+        }
+        match self {
+            DateRule::Set => Ok(Few::One(argument)),
+            DateRule::Fill if first.is_blank() => Ok(Few::One(argument)),
+            DateRule::Earlier if argument.earlier_than(first) => Ok(Few::One(argument)),
+            DateRule::Fill | DateRule::Earlier => Ok(Few::One(first)),
+            DateRule::Compare if out_of_order(first, second) => Err(DateRefusal::OutOfOrder),
+            DateRule::Compare => Ok(Few::Nothing),
+        }
+    }
+}
+
 #[derive(Clone, Copy)]
 pub struct Dates;
 
+// Each book implements the trait itself, so that what it answers is in its own file.
 impl RuleBook for Dates {
     type Value = Date;
 
@@ -113,28 +201,17 @@ impl RuleBook for Dates {
     ghost sized = { Prim.search rules };
 
     fn modes_of(&self, rule: u32) -> Few<Mode> {
-        match rule {
-            1 => Few::One(Mode::Write),
-            2 | 3 => Few::One(Mode::Update),
-            4 => Few::Two(Mode::Read, Mode::Read),
-            _ => Few::Nothing,
+        match DateRule::try_from(rule) {
+            Ok(rule) => rule.modes(),
+            Err(_) => Few::Nothing,
         }
     }
 
     fn run(&self, rule: u32, argument: Date, read: Few<Date>) -> Result<Few<Date>, BookFault>
         ensures { answer_of result ≡ dates_answer rule argument (few_list read) }
     {
-        let first = value_at(read, 0, Date::BLANK);
-        let second = value_at(read, 1, Date::BLANK);
-        match rule {
-            1..=4 if !argument.is_lawful() => Err(UNLAWFUL_ARGUMENT),
-            1 => Ok(Few::One(argument)),
-            2 if first.is_blank() => Ok(Few::One(argument)),
-            3 if argument.earlier_than(first) => Ok(Few::One(argument)),
-            2 | 3 => Ok(Few::One(first)),
-            4 if out_of_order(first, second) => Err(OUT_OF_ORDER),
-            4 => Ok(Few::Nothing),
-            _ => Err(UNKNOWN_RULE),
-        }
+        let first = read.get(0).unwrap_or(Date::BLANK);
+        let second = read.get(1).unwrap_or(Date::BLANK);
+        Ok(DateRule::try_from(rule)?.answer(argument, first, second)?)
     }
 }

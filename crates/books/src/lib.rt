@@ -1,6 +1,5 @@
 // The rule books: counts and dates.
 #![tactic(auto)]
 
-mod card;
 pub mod date;
 pub mod tally;

@@ -1,11 +1,12 @@
 // The tally book: counts up to 999,999 that are set, added to, moved and summed.
-ghost use Rattle.std.specs.Prelude.{◌≡◌, ◌+◌, [], ◌∷◌};
-ghost use Rattle.book.specs.Meaning.{answer_of};
-ghost use Rattle.terms.specs.Few.{few_list};
-ghost use Rattle.books.specs.Tallies.{tally_modes, tally_answer, moving, within_limit};
+ghost use Rattle.std.specs.Prelude.{◌≡◌, ◌+◌, ok_or};
 ghost use Rattle.std.proofs.Common.{rules};
+ghost use Rattle.book.specs.Meaning.{answer_of, modes_in};
+ghost use Rattle.terms.specs.Few.{few_list};
+ghost use Rattle.books.specs.Answers.{answer_by};
+ghost use Rattle.books.specs.Tallies.{counted, tally_code, tally_rule, rule_modes, tally_modes, moving, rule_answer, tally_answer};
+ghost use Rattle.books.specs.declared.tally.TallyRefusal.TheVariants.{UnknownRule};
 
-use crate::card::value_at;
 use book::fault::BookFault;
 use book::rules::RuleBook;
 use terms::few::Few;
@@ -13,38 +14,109 @@ use terms::mode::Mode;
 
 const LIMIT: u32 = 999_999;
 
-const UNKNOWN_RULE: BookFault = BookFault { code: 0 };
+// Why the book declines.
+#[derive(Clone, Copy, Debug, PartialEq, Eq)]
+pub enum TallyRefusal {
+    UnknownRule,
+    AboveLimit,
+    TooFew,
+    ArgumentAboveLimit,
+}
 
-const ABOVE_LIMIT: BookFault = BookFault { code: 1 };
+impl From<TallyRefusal> for BookFault {
+    ghost from_gives = { λ refusal fault. fault.code ≡ tally_code refusal };
 
-const TOO_FEW: BookFault = BookFault { code: 2 };
+    fn from(refusal: TallyRefusal) -> BookFault {
+        let code = match refusal {
+            TallyRefusal::UnknownRule => 0,
+            TallyRefusal::AboveLimit => 1,
+            TallyRefusal::TooFew => 2,
+            TallyRefusal::ArgumentAboveLimit => 3,
+        };
+        BookFault { code }
+    }
+}
 
-const ARGUMENT_ABOVE_LIMIT: BookFault = BookFault { code: 3 };
+#[derive(Clone, Copy, Debug, PartialEq, Eq)]
+pub enum TallyRule {
+    Set,
+    Add,
+    Move,
+    Sum,
+}
+
+impl TryFrom<u32> for TallyRule {
+    type Error = TallyRefusal;
+
+    ghost try_from_gives = { λ number rule. rule ≡ ok_or (tally_rule number) UnknownRule };
+
+    fn try_from(number: u32) -> Result<TallyRule, TallyRefusal> {
+        match number {
+            1 => Ok(TallyRule::Set),
+            2 => Ok(TallyRule::Add),
+            3 => Ok(TallyRule::Move),
+            4 => Ok(TallyRule::Sum),
+            _ => Err(TallyRefusal::UnknownRule),
+        }
+    }
+}
+
+impl TallyRule {
+    fn modes(self) -> Few<Mode>
+        ensures { modes_in result ≡ rule_modes self }
+    {
+        match self {
+            TallyRule::Set => Few::One(Mode::Write),
+            TallyRule::Add => Few::One(Mode::Update),
+            TallyRule::Move => Few::Two(Mode::Update, Mode::Update),
+            TallyRule::Sum => Few::Three(Mode::Read, Mode::Read, Mode::Write),
+        }
+    }
+
+    // The counts to write, from an argument and the first two counts read.
+    fn answer(self, argument: u32, first: u32, second: u32) -> Result<Few<u32>, TallyRefusal>
+        ensures { answer_by tally_code result ≡ rule_answer self argument first second }
+    {
+        if argument > LIMIT {
+            return Err(TallyRefusal::ArgumentAboveLimit);
+        }
+        match self {
+            TallyRule::Set => Ok(Few::One(argument)),
+            TallyRule::Add => Ok(Few::One(sum(first, argument)?)),
+            TallyRule::Move => moved(argument, first, second),
+            TallyRule::Sum => Ok(Few::One(sum(first, second)?)),
+        }
+    }
+}
+
+fn within_limit(count: u32) -> Result<u32, TallyRefusal>
+    ensures { result ≡ counted count }
+{
+    if count <= LIMIT {
+        Ok(count)
+    } else {
+        Err(TallyRefusal::AboveLimit)
+    }
+}
+
+fn sum(a: u32, b: u32) -> Result<u32, TallyRefusal>
+    ensures { result ≡ counted (a + b) }
+{
+    within_limit(a.saturating_add(b))
+}
+
+// The two cards of a move as they are written.
+fn moved(argument: u32, from: u32, to: u32) -> Result<Few<u32>, TallyRefusal>
+    ensures { answer_by tally_code result ≡ moving argument from to }
+{
+    let rest = from.checked_sub(argument).ok_or(TallyRefusal::TooFew)?;
+    Ok(Few::Two(within_limit(rest)?, sum(to, argument)?))
+}
 
 #[derive(Clone, Copy)]
 pub struct Tally;
 
-// The sum as the only value written.
-fn sum(a: u32, b: u32) -> Result<Few<u32>, BookFault>
-    ensures { answer_of result ≡ within_limit ((a + b) ∷ []) }
-{
-    match a.checked_add(b) {
-        Some(sum) if sum <= LIMIT => Ok(Few::One(sum)),
-        _ => Err(ABOVE_LIMIT),
-    }
-}
-
-// The two cards of a move as they are written.
-fn moved(argument: u32, from: u32, to: u32) -> Result<Few<u32>, BookFault>
-    ensures { answer_of result ≡ moving argument from to }
-{
-    match (from.checked_sub(argument), to.checked_add(argument)) {
-        (None, _) => Err(TOO_FEW),
-        (Some(rest), Some(sum)) if rest <= LIMIT && sum <= LIMIT => Ok(Few::Two(rest, sum)),
-        _ => Err(ABOVE_LIMIT),
-    }
-}
-
+// Each book implements the trait itself, so that what it answers is in its own file.
 impl RuleBook for Tally {
     type Value = u32;
 
@@ -59,27 +131,17 @@ impl RuleBook for Tally {
     ghost sized = { Prim.search rules };
 
     fn modes_of(&self, rule: u32) -> Few<Mode> {
-        match rule {
-            1 => Few::One(Mode::Write),
-            2 => Few::One(Mode::Update),
-            3 => Few::Two(Mode::Update, Mode::Update),
-            4 => Few::Three(Mode::Read, Mode::Read, Mode::Write),
-            _ => Few::Nothing,
+        match TallyRule::try_from(rule) {
+            Ok(rule) => rule.modes(),
+            Err(_) => Few::Nothing,
         }
     }
 
     fn run(&self, rule: u32, argument: u32, read: Few<u32>) -> Result<Few<u32>, BookFault>
         ensures { answer_of result ≡ tally_answer rule argument (few_list read) }
     {
-        let first = value_at(read, 0, 0);
-        let second = value_at(read, 1, 0);
-        match rule {
-            1..=4 if argument > LIMIT => Err(ARGUMENT_ABOVE_LIMIT),
-            1 => Ok(Few::One(argument)),
-            2 => sum(first, argument),
-            3 => moved(argument, first, second),
-            4 => sum(first, second),
-            _ => Err(UNKNOWN_RULE),
-        }
+        let first = read.get(0).unwrap_or(0);
+        let second = read.get(1).unwrap_or(0);
+        Ok(TallyRule::try_from(rule)?.answer(argument, first, second)?)
     }
 }

@@ -3,14 +3,14 @@
 
 #[cfg(test)]
 mod tests {
-    use book::fault::BookFault;
     use book::rules::RuleBook;
     use books::date::{Date, Dates};
     use books::tally::Tally;
     use terms::few::Few;
 
-    // A rule, its argument and the values read; then the values to write, or the book's code.
-    #[derive(Drop)]
+    // A rule, its argument and the values read; then the values to write, or the book's code, a number as the rules have
+    // it.
+    #[derive(Clone, Copy)]
     struct Case<V>(u32, V, Few<V>, Result<Few<V>, u32>);
 
     const BLANK: Date = Date::BLANK;
@@ -45,24 +45,15 @@ mod tests {
         day: 1,
     };
 
-    fn same<V: Copy + PartialEq>(
-        answer: Result<Few<V>, BookFault>,
-        expected: Result<Few<V>, u32>,
-    ) -> bool {
-        match (answer, expected) {
-            (Ok(values), Ok(wanted)) => same_values(values, wanted),
-            (Err(fault), Err(code)) => fault.code == code,
-            _ => false,
-        }
-    }
-
-    fn same_values<V: Copy + PartialEq>(values: Few<V>, wanted: Few<V>) -> bool {
-        for i in 0..4 {
-            if values.get(i) != wanted.get(i) {
-                return false;
-            }
-        }
-        true
+    // The place of the first case that a book answers otherwise.
+    fn first_wrong<B: RuleBook>(book: &B, cases: &[Case<B::Value>]) -> Option<usize>
+    where
+        B::Value: PartialEq,
+    {
+        cases.iter().position(|Case(rule, argument, read, expected)| {
+            let answer = book.run(*rule, *argument, *read);
+            answer.map_err(|fault| fault.code) != *expected
+        })
     }
 
     #[test]
@@ -94,13 +85,7 @@ mod tests {
             Case(0, 1_000_000, Few::Nothing, Err(0)),
             Case(5, 0, Few::Two(1, 2), Err(0)),
         ];
-        for (i, Case(rule, argument, read, expected)) in CASES.iter().enumerate() {
-            assert!(rt;
-                same(Tally.run(*rule, *argument, *read), *expected),
-                "{}",
-                i
-            );
-        }
+        assert_eq!(rt; first_wrong(&Tally, &CASES), None);
     }
 
     #[test]
@@ -129,13 +114,7 @@ mod tests {
             Case(0, UNLAWFUL, Few::Two(MARCH, FEBRUARY), Err(0)),
             Case(5, MARCH, Few::Nothing, Err(0)),
         ];
-        for (i, Case(rule, argument, read, expected)) in CASES.iter().enumerate() {
-            assert!(rt;
-                same(Dates.run(*rule, *argument, *read), *expected),
-                "{}",
-                i
-            );
-        }
+        assert_eq!(rt; first_wrong(&Dates, &CASES), None);
     }
 
     #[test]
@@ -163,5 +142,19 @@ mod tests {
             assert_eq!(rt; date.is_lawful(), lawful, "{}", i);
             assert_eq!(rt; Dates.run(1, date, Few::Nothing).is_ok(), lawful, "{}", i);
         }
+    }
+
+    #[test]
+    fn dates_of_numbers(rt: HostRuntime) {
+        let greatest = Date {
+            year: 65_535,
+            month: 255,
+            day: 255,
+        };
+        assert_eq!(rt; Date::try_from((1600, 2, 29)), Ok(FEBRUARY));
+        assert_eq!(rt; Date::try_from((65_535, 255, 255)), Ok(greatest));
+        assert!(rt; Date::try_from((65_536, 0, 0)).is_err());
+        assert!(rt; Date::try_from((0, 256, 0)).is_err());
+        assert!(rt; Date::try_from((0, 0, 256)).is_err());
     }
 }

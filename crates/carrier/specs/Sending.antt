@@ -1,5 +1,5 @@
 -- Sending one message to several sites. Assumes nothing.
-use Rattle.std.specs.Prelude.{ℕ, cond, List, [], ◌∷◌, map, filter}
+use Rattle.std.specs.Prelude.{ℕ, List, map, filter}
 use Rattle.std.specs.List.{range_with_len}
 use Rattle.records.specs.declared.message.Message.{Message}
 use Rattle.records.specs.Present.{holds}
@@ -14,6 +14,3 @@ addressed m site = record { kind = m.kind; from = m.from; to = site; line = m.li
 -- The message once for each site that the mask names.
 abbrev pub copies : {V : Type 0} → Message V → ℕ → List (Message V)
 copies m mask = map (addressed m) (targets mask)
-
-abbrev pub copy_if_named : {V : Type 0} → Message V → ℕ → ℕ → List (Message V)
-copy_if_named m mask site = cond (holds mask site) (addressed m site ∷ []) []

@@ -1,9 +1,9 @@
 // Why a carrier refuses.
 ghost use Rattle.carrier.specs.Carrying.{refusal_of};
 
-use terms::fault::Fault;
+use terms::fault::{Fault, Refusal};
 
-#[derive(Clone, Copy)]
+#[derive(Debug, Clone, Copy, PartialEq, Eq)]
 pub enum CarrierFault {
     // fewer free places than the call would put
     Full,
@@ -14,18 +14,10 @@ pub enum CarrierFault {
 impl Fault for CarrierFault {
     ghost told = { refusal_of };
 
-    fn number(&self) -> u32 {
+    fn refusal(&self) -> Refusal {
         match self {
-            CarrierFault::Full => 15,
-            CarrierFault::Empty => 16,
+            CarrierFault::Full => Refusal::plain(15),
+            CarrierFault::Empty => Refusal::plain(16),
         }
-    }
-
-    fn line(&self) -> u32 {
-        0
-    }
-
-    fn code(&self) -> u32 {
-        0
     }
 }

@@ -1,7 +1,7 @@
 // Sending one message to several sites through any carrier.
-ghost use Rattle.std.specs.Prelude.{◌≡◌, ◌-◌, length};
-ghost use Rattle.carrier.specs.Carrying.{PutOf};
-ghost use Rattle.carrier.specs.Sending.{targets, copies, copy_if_named};
+ghost use Rattle.std.specs.Prelude.{◌≡◌, length};
+ghost use Rattle.carrier.specs.Carrying.{PutOf, places_left};
+ghost use Rattle.carrier.specs.Sending.{targets, addressed, copies};
 
 use crate::carrier::Carrier;
 use crate::fault::CarrierFault;
@@ -12,39 +12,23 @@ use records::message::Message;
 pub fn target_count(sites: u32) -> usize
     ensures { result ≡ length (targets sites) }
 {
-    let mut count = 0;
-    for site in 0..8 {
-        if names(sites, site) {
-            count += 1;
-        }
-    }
-    count
+    (0..8).filter(|site| names(sites, *site)).count()
 }
 
 // How many messages could still be put.
 pub fn free_places<V: Copy, C: Carrier<V>>(carrier: &C) -> usize
-    ensures { result ≡ C.Carrier.limit carrier.now - length (C.Carrier.waiting carrier.now) }
+    ensures { result ≡ places_left (C.Carrier.queue carrier.now) }
 {
     carrier.most() - carrier.count()
 }
 
-// Sends the message to one site if the mask names it.
-fn send_if_named<V: Copy, C: Carrier<V>>(
-    carrier: &mut C,
-    message: Message<V>,
-    sites: u32,
-    site: u32,
-) -> Result<(), CarrierFault>
-    ensures did { PutOf (C.Carrier.waiting carrier.old) (C.Carrier.limit carrier.old) (copy_if_named message sites site) result (C.Carrier.waiting carrier.new) }
-    ensures same { C.Carrier.limit carrier.new ≡ C.Carrier.limit carrier.old }
+// The message, to one site.
+fn to_site<V: Copy>(message: Message<V>, site: u32) -> Message<V>
+    ensures { result ≡ addressed message site }
 {
-    if names(sites, site) {
-        carrier.put(Message {
-            to: site,
-            ..message
-        })
-    } else {
-        Ok(())
+    Message {
+        to: site,
+        ..message
     }
 }
 
@@ -54,14 +38,16 @@ pub fn send_to<V: Copy, C: Carrier<V>>(
     message: Message<V>,
     sites: u32,
 ) -> Result<(), CarrierFault>
-    ensures did { PutOf (C.Carrier.waiting carrier.old) (C.Carrier.limit carrier.old) (copies message sites) result (C.Carrier.waiting carrier.new) }
-    ensures same { C.Carrier.limit carrier.new ≡ C.Carrier.limit carrier.old }
+    ensures { PutOf (C.Carrier.queue carrier.old) (copies message sites) result (C.Carrier.queue carrier.new) }
 {
     if free_places(carrier) < target_count(sites) {
         return Err(CarrierFault::Full);
     }
+    // Over a filtered range the check does not cover a loop that puts.
     for site in 0..8 {
-        send_if_named(carrier, message, sites, site)?;
+        if names(sites, site) {
+            carrier.put(to_site(message, site))?;
+        }
     }
     Ok(())
 }

@@ -1,7 +1,11 @@
--- Which of the waiting messages a carrier takes. Assumes nothing.
+-- What a carrier holds, and which of the waiting messages it takes. Assumes nothing.
 use Rattle.std.specs.Prelude.{◌≡◌, ℕ, suc, ◌+◌, ◌-◌, ◌*◌, ◌%◌, ◌<◌, cond, ◌≢◌, List, [], ◌∷◌, length, nat_le, slice_index_or}
 use Rattle.records.specs.declared.message.Message.{Message}
 use Rattle.terms.specs.Lists.{all}
+use Rattle.carrier.specs.Carrying.{Queue}
+
+abbrev pub queue_of : {V : Type 0} → List (Message V) → ℕ → Queue V
+queue_of waiting limit = record { waiting = waiting; limit = limit }
 
 -- The tray counts round its messages by the hint.
 abbrev pub tray_place : {V : Type 0} → List (Message V) → ℕ → ℕ

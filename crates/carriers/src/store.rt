@@ -1,52 +1,50 @@
-// Where a carrier keeps its messages, in the order put. All storage is taken at the start, so that a put is refused at
-// the limit and for no other reason.
+// A carrier that keeps its messages in the order put, and takes by a choice. All storage is taken at the start, so that
+// a put is refused at the limit and for no other reason.
 ghost use Rattle.std.specs.Prelude.{◌≡◌, ◌<◌, ◌≤◌, [], ◌∷◌, length, IfOk, vec_len, vec_capacity};
 ghost use Rattle.carrier.specs.Carrying.{PutOf, TakeOf};
+ghost use Rattle.carriers.specs.Choosing.{queue_of};
+ghost use Rattle.std.proofs.Common.{rules};
 
-use carrier::carrier::Taken;
+use crate::choice::Choice;
+use carrier::carrier::{Carrier, Taken};
 use carrier::fault::CarrierFault;
 use records::message::Message;
 use std::alloc::{AllocError, Global};
+use std::marker::PhantomData;
 
 #[derive(Drop)]
-pub struct Store<V> {
+pub struct Store<V, C> {
     items: Vec<Message<V>>,
     most: usize,
+    choice: PhantomData<C>,
     ghost within: { vec_len items ≤ most },
     ghost reserved: { most ≤ vec_capacity items },
 }
 
-impl<V: Copy> Store<V> {
-    pub fn new(heap: Global, most: usize) -> Result<Store<V>, AllocError>
+impl<V: Copy, C: Choice<V>> Store<V, C> {
+    // An empty store; it needs memory for as many messages as may wait.
+    pub fn new(heap: Global, most: usize) -> Result<Store<V, C>, AllocError>
         ensures { IfOk result (λ s. (s.items.items ≡ []) × (s.most ≡ most)) }
     {
         Ok(Store {
             items: Vec::with_capacity(heap, most)?,
             most,
+            choice: PhantomData,
         })
     }
+}
 
-    pub fn count(&self) -> usize
-        ensures { result ≡ length self.now.items.items }
-    {
-        self.items.len()
-    }
+impl<V: Copy, C: Choice<V>> Carrier<V> for Store<V, C> {
+    ghost queue = { λ c. queue_of c.items.items c.most };
 
-    pub fn most(&self) -> usize
-        ensures { result ≡ self.now.most }
-    {
-        self.most
-    }
+    ghost place = { λ c hint. C.place c.items.items hint };
 
-    pub fn waiting(&self) -> &[Message<V>]
-        ensures { result.now ≡ self.now.items.items }
-    {
-        self.items.as_slice()
-    }
+    ghost bounded = { Prim.search rules };
 
-    pub fn put(&mut self, message: Message<V>) -> Result<(), CarrierFault>
-        ensures did { PutOf self.old.items.items self.old.most (message ∷ []) result self.new.items.items }
-        ensures same { self.new.most ≡ self.old.most }
+    ghost chosen = { λ c hint some. C.within c.items.items hint some };
+
+    fn put(&mut self, message: Message<V>) -> Result<(), CarrierFault>
+        ensures { PutOf (queue_of self.old.items.items self.old.most) (message ∷ []) result (queue_of self.new.items.items self.new.most) }
     {
         if self.items.len() == self.most {
             return Err(CarrierFault::Full);
@@ -55,18 +53,22 @@ impl<V: Copy> Store<V> {
         Ok(())
     }
 
-    // Takes the message at a place, unless nothing waits.
-    pub fn take(&mut self, place: usize) -> Result<Taken<V>, CarrierFault>
-        requires { 0 < length self.old.items.items → place < length self.old.items.items }
-        ensures did { TakeOf self.old.items.items place result self.new.items.items }
-        ensures same { self.new.most ≡ self.old.most }
+    fn take(&mut self, hint: u32) -> Result<Taken<V>, CarrierFault>
+        ensures did { TakeOf (queue_of self.old.items.items self.old.most) (C.place self.old.items.items hint) result (queue_of self.new.items.items self.new.most) }
+        ensures rule { IfOk result (λ t. C.Promised self.old.items.items hint t.place) }
     {
-        if self.items.is_empty() {
-            return Err(CarrierFault::Empty);
-        }
+        let place = C::choose(self.items.as_slice(), hint).ok_or(CarrierFault::Empty)?;
         Ok(Taken {
             message: self.items.remove(place),
             place,
         })
+    }
+
+    fn count(&self) -> usize {
+        self.items.len()
+    }
+
+    fn most(&self) -> usize {
+        self.most
     }
 }

@@ -6,9 +6,25 @@ use carriers::lanes::Lanes;
 use carriers::tray::Tray;
 use records::line::Line;
 use records::message::Message;
-use std::io;
-use std::str::SplitWhitespace;
+use std::alloc::{AllocError, Global};
+use std::str::{FromStr, SplitWhitespace};
+use std::{fmt, io};
 use terms::fault::Fault;
+
+#[derive(Clone, Copy)]
+enum Kind {
+    Tray,
+    Lanes,
+}
+
+impl fmt::Display for Kind {
+    fn fmt<W: fmt::Write>(&self, f: &mut fmt::Formatter<W>) -> fmt::Result {
+        match self {
+            Kind::Tray => write!(f, "tray"),
+            Kind::Lanes => write!(f, "lanes"),
+        }
+    }
+}
 
 #[derive(Clone, Copy)]
 enum Order {
@@ -19,25 +35,34 @@ enum Order {
 
 #[derive(Clone, Copy)]
 enum Command {
-    NewTray(usize),
-    NewLanes(usize),
+    New(Kind, usize),
     Do(Order),
 }
 
-fn number(words: &mut SplitWhitespace<'_>) -> Option<u32> {
-    words.next()?.parse::<u32>().ok()
+// A line that has no known form, or something behind it.
+#[derive(Clone, Copy)]
+struct BadLine;
+
+impl fmt::Display for BadLine {
+    fn fmt<W: fmt::Write>(&self, f: &mut fmt::Formatter<W>) -> fmt::Result {
+        write!(f, "bad")
+    }
 }
 
-fn size(words: &mut SplitWhitespace<'_>) -> Option<usize> {
-    words.next()?.parse::<usize>().ok()
+// The next word, read as a number.
+fn number<N: FromStr + Drop>(words: &mut SplitWhitespace<'_>) -> Result<N, BadLine>
+where
+    N::Err: Drop,
+{
+    words.next().ok_or(BadLine)?.parse().or(Err(BadLine))
 }
 
-fn message(words: &mut SplitWhitespace<'_>) -> Option<Message<u32>> {
+fn message(words: &mut SplitWhitespace<'_>) -> Result<Message<u32>, BadLine> {
     let kind = number(words)?;
     let from = number(words)?;
     let to = number(words)?;
     let time = number(words)?;
-    Some(Message {
+    Ok(Message {
         kind,
         from,
         to,
@@ -52,33 +77,50 @@ fn message(words: &mut SplitWhitespace<'_>) -> Option<Message<u32>> {
     })
 }
 
-fn named(name: &str, words: &mut SplitWhitespace<'_>) -> Option<Command> {
+fn named(name: &str, words: &mut SplitWhitespace<'_>) -> Result<Command, BadLine> {
     match name {
-        "tray" => Some(Command::NewTray(size(words)?)),
-        "lanes" => Some(Command::NewLanes(size(words)?)),
-        "put" => Some(Command::Do(Order::Put(message(words)?))),
-        "take" => Some(Command::Do(Order::Take(number(words)?))),
-        "count" => Some(Command::Do(Order::Count)),
-        _ => None,
+        "tray" => Ok(Command::New(Kind::Tray, number(words)?)),
+        "lanes" => Ok(Command::New(Kind::Lanes, number(words)?)),
+        "put" => Ok(Command::Do(Order::Put(message(words)?))),
+        "take" => Ok(Command::Do(Order::Take(number(words)?))),
+        "count" => Ok(Command::Do(Order::Count)),
+        _ => Err(BadLine),
     }
 }
 
-// The command that a line gives, if it has a known form and nothing behind it.
-fn read(line: &str) -> Option<Command> {
-    let mut words = line.split_whitespace();
-    let name = words.next()?;
-    let command = named(name, &mut words)?;
-    match words.next() {
-        None => Some(command),
-        Some(_) => None,
+impl FromStr for Command {
+    type Err = BadLine;
+
+    fn from_str(line: &str) -> Result<Command, BadLine> {
+        let mut words = line.split_whitespace();
+        let name = words.next().ok_or(BadLine)?;
+        let command = named(name, &mut words)?;
+        match words.next() {
+            None => Ok(command),
+            Some(_) => Err(BadLine),
+        }
     }
 }
 
-#[derive(Drop)]
+#[derive(Clone, Copy, Default)]
 struct Tally {
     put: u64,
     taken: u64,
     refused: u64,
+}
+
+impl fmt::Display for Tally {
+    fn fmt<W: fmt::Write>(&self, f: &mut fmt::Formatter<W>) -> fmt::Result {
+        write!(
+            f,
+            "{} messages were put, {} were taken and {} calls were refused.",
+            self.put, self.taken, self.refused
+        )
+    }
+}
+
+fn one_more(count: &mut u64) {
+    *count = count.saturating_add(1);
 }
 
 // What the carrier answers to an order, told and tallied.
@@ -91,17 +133,17 @@ fn obey<C: Carrier<u32>>(
     match order {
         Order::Put(message) => match carrier.put(message) {
             Ok(()) => {
-                tally.put = tally.put.saturating_add(1);
+                one_more(&mut tally.put);
                 println!(rt; "put 0")
             }
             Err(fault) => {
-                tally.refused = tally.refused.saturating_add(1);
+                one_more(&mut tally.refused);
                 println!(rt; "put {}", fault.number())
             }
         },
         Order::Take(hint) => match carrier.take(hint) {
             Ok(taken) => {
-                tally.taken = tally.taken.saturating_add(1);
+                one_more(&mut tally.taken);
                 let m = taken.message;
                 println!(rt;
                     "take 0 {} {} {} {} {}",
@@ -109,7 +151,7 @@ fn obey<C: Carrier<u32>>(
                 )
             }
             Err(fault) => {
-                tally.refused = tally.refused.saturating_add(1);
+                one_more(&mut tally.refused);
                 println!(rt; "take {}", fault.number())
             }
         },
@@ -117,45 +159,45 @@ fn obey<C: Carrier<u32>>(
     }
 }
 
+// The carrier that is driven: an enum, since no contract can speak of a `dyn` of a trait that has a parameter.
 #[derive(Drop)]
 enum Held {
     Tray(Tray<u32>),
     Lanes(Lanes<u32>),
 }
 
-fn main(rt: HostRuntime) -> io::Result<()> {
-    let heap = rt.alloc();
-    let mut held = Held::Tray(Tray::new(heap, 0)?);
-    let mut tally = Tally {
-        put: 0,
-        taken: 0,
-        refused: 0,
-    };
-    for line in rt.lines(heap) {
-        match read(line?.as_str()) {
-            None => println!(rt; "bad")?,
-            Some(Command::NewTray(most)) => match Tray::new(heap, most) {
-                Ok(tray) => {
-                    held = Held::Tray(tray);
-                    println!(rt; "tray {most}")?;
-                }
-                Err(_) => println!(rt; "no memory")?,
-            },
-            Some(Command::NewLanes(most)) => match Lanes::new(heap, most) {
-                Ok(lanes) => {
-                    held = Held::Lanes(lanes);
-                    println!(rt; "lanes {most}")?;
-                }
-                Err(_) => println!(rt; "no memory")?,
-            },
-            Some(Command::Do(order)) => match &mut held {
-                Held::Tray(tray) => obey(&rt, tray, order, &mut tally)?,
-                Held::Lanes(lanes) => obey(&rt, lanes, order, &mut tally)?,
-            },
+impl Held {
+    fn new(heap: Global, kind: Kind, most: usize) -> Result<Held, AllocError> {
+        match kind {
+            Kind::Tray => Ok(Held::Tray(Tray::new(heap, most)?)),
+            Kind::Lanes => Ok(Held::Lanes(Lanes::new(heap, most)?)),
         }
     }
-    println!(rt;
-        "{} messages were put, {} were taken and {} calls were refused.",
-        tally.put, tally.taken, tally.refused
-    )
+
+    fn obey(&mut self, rt: &HostRuntime, order: Order, tally: &mut Tally) -> io::Result<()> {
+        match self {
+            Held::Tray(tray) => obey(rt, tray, order, tally),
+            Held::Lanes(lanes) => obey(rt, lanes, order, tally),
+        }
+    }
+}
+
+fn main(rt: HostRuntime) -> io::Result<()> {
+    let heap = rt.alloc();
+    let mut held = Held::new(heap, Kind::Tray, 0)?;
+    let mut tally = Tally::default();
+    for line in rt.lines(heap) {
+        match line?.parse() {
+            Err(bad) => println!(rt; "{bad}")?,
+            Ok(Command::New(kind, most)) => match Held::new(heap, kind, most) {
+                Ok(new) => {
+                    held = new;
+                    println!(rt; "{kind} {most}")?;
+                }
+                Err(_) => println!(rt; "no memory")?,
+            },
+            Ok(Command::Do(order)) => held.obey(&rt, order, &mut tally)?,
+        }
+    }
+    println!(rt; "{tally}")
 }

@@ -1,10 +1,9 @@
-// The word that a line of a sitting's script begins with.
-ghost use Rattle.std.specs.Prelude.{◌≡◌};
+// The word that a line of a sitting's script begins with: one match, which says all words.
 ghost use Rattle.commands.specs.Words.{word_of};
 
-use script::spelling::spells;
+use script::field::Field;
 
-#[derive(Clone, Copy)]
+#[derive(Clone, Copy, Debug, PartialEq, Eq)]
 pub enum Word {
     Sites,
     Card,
@@ -16,28 +15,20 @@ pub enum Word {
     Close,
 }
 
-impl Word {
-    pub fn of(text: &[u8]) -> Option<Word>
-        ensures { result ≡ word_of text.now }
-    {
-        if spells(text, b"sites") {
-            Some(Word::Sites)
-        } else if spells(text, b"card") {
-            Some(Word::Card)
-        } else if spells(text, b"open") {
-            Some(Word::Open)
-        } else if spells(text, b"start") {
-            Some(Word::Start)
-        } else if spells(text, b"deliver") {
-            Some(Word::Deliver)
-        } else if spells(text, b"settle") {
-            Some(Word::Settle)
-        } else if spells(text, b"value") {
-            Some(Word::Value)
-        } else if spells(text, b"close") {
-            Some(Word::Close)
-        } else {
-            None
+impl Field for Word {
+    ghost told = { word_of };
+
+    fn of_text(text: &[u8]) -> Option<Word> {
+        match text {
+            b"sites" => Some(Word::Sites),
+            b"card" => Some(Word::Card),
+            b"open" => Some(Word::Open),
+            b"start" => Some(Word::Start),
+            b"deliver" => Some(Word::Deliver),
+            b"settle" => Some(Word::Settle),
+            b"value" => Some(Word::Value),
+            b"close" => Some(Word::Close),
+            _ => None,
         }
     }
 }

@@ -1,8 +1,9 @@
 -- A delivery leaves what knowledge makes of the same arrival. Assumes nothing.
-use Rattle.std.proofs.Common.{◌≡◌, Bool, true, false, cond, List, [], ◌∷◌, ◌++◌, is_some, Some, None, Ok, Option, sym, refl, ap, ◌∙◌, subst, rules}
+use Rattle.std.proofs.Common.{◌≡◌, ℕ, Bool, true, false, cond, List, [], ◌∷◌, ◌++◌, is_some, Some, None, Ok, Option, sym, refl, ap, ◌∙◌, subst, rules}
 use Rattle.std.proofs.lemmas.List.{append-nil}
 use Rattle.terms.specs.declared.kind.Kind.{Kind}
 use Rattle.terms.specs.declared.kind.Kind.TheVariants.{Line, Confirm, Deny, Commit, Abort}
+use Rattle.terms.specs.Numbers.{told_or_unknown}
 use Rattle.terms.specs.declared.outcome.Outcome.{Outcome}
 use Rattle.terms.specs.declared.outcome.Outcome.TheVariants as outcome
 use Rattle.records.specs.declared.line.Line as lines
@@ -48,10 +49,11 @@ module _ {V : Type 0} (site : Site V) (m : Message V) where
   arrives_as own Commit = verdict_arrived outcome.Commit (is_some (known site m.line.time))
   arrives_as own Abort = verdict_arrived outcome.Abort (is_some (known site m.line.time))
 
-  pub delivers_as : (own : Option (Transaction V)) (kind : Kind) (o : Option Kind) (e : Effect V) → Some kind ≡ o → e ≡ effect_of site own kind m → DeliversAs site o m (Ok e)
-  delivers_as own kind o e is made =
-      let arrived = subst (ArrivesAs site kind m) (sym made) (arrives_as own kind) in
-      subst (λ k. DeliversAs site k m (Ok e)) is arrived
+  pub delivers_as : (own : Option (Transaction V)) (kind : Kind) (o : Option Kind) (n : ℕ) (e : Effect V) → Ok kind ≡ told_or_unknown o n → e ≡ effect_of site own kind m → DeliversAs site o m (Ok e)
+  delivers_as own kind None n e is made = absurd (cc)
+  delivers_as own kind (Some k) n e is made =
+      let same : kind ≡ k = cc in
+      subst (λ k. ArrivesAs site k m e) same (subst (ArrivesAs site kind m) (sym made) (arrives_as own kind))
 
   line_told : (dropped primary refused : Bool) → primary ≡ true → replies (cond dropped Nothing (cond primary (cond refused Denies Confirms) Lands)) m ≡ answered_by (reply_kind (cond dropped Dropped (cond refused Denied Confirmed))) m
   line_told true primary refused p = refl
@@ -59,8 +61,9 @@ module _ {V : Type 0} (site : Site V) (m : Message V) where
   line_told false true false p = refl
   line_told false false refused p = let never : ⊥ = search rules in elim never [ ]
 
-  pub answers_as : (own : Option (Transaction V)) (kind : Kind) (o : Option Kind) (e : Effect V) → Some kind ≡ o → e ≡ effect_of site own kind m → AnswersAs site o m (Ok e)
-  answers_as own kind o e is made line primary =
+  pub answers_as : (own : Option (Transaction V)) (kind : Kind) (o : Option Kind) (n : ℕ) (e : Effect V) → Ok kind ≡ told_or_unknown o n → e ≡ effect_of site own kind m → AnswersAs site o m (Ok e)
+  answers_as own kind o n e is made line primary =
+      let told : Ok kind ≡ told_or_unknown (Some Line) n = is ∙ ap (λ k. told_or_unknown k n) line in
       let is_line : kind ≡ Line = cc in
       ap (λ x. replies x m) (made ∙ ap (λ k. effect_of site own k m) is_line)
       ∙ line_told (aborted site m.line.time) (is_primary (card_of site m) m.to) (denied site m.line) primary

@@ -1,3 +1,3 @@
 pub mod Arriving
 pub mod Marking
-pub mod Places
+pub mod Tables

@@ -1,8 +1,7 @@
 -- What a reply leaves on the transaction whose line it answers. Assumes nothing.
 use Rattle.std.specs.Prelude.{◌≡◌, ℕ, ◌+◌, Bool, false, cond, ◌&&◌, List, [], ◌∷◌, length, Some, None, Option, ◌==◌, nat_le}
-use Rattle.terms.specs.Few.{few_list}
+use Rattle.terms.specs.Few.{few_list, few_of}
 use Rattle.terms.specs.declared.few.Few.{Few}
-use Rattle.terms.specs.declared.few.Few.TheVariants.{Nothing, One, Two, Three, Four}
 use Rattle.terms.specs.declared.kind.Kind.{Kind}
 use Rattle.terms.specs.declared.kind.Kind.TheVariants.{Line, Confirm, Deny, Commit, Abort}
 use Rattle.terms.specs.declared.mark.Mark.{Mark}
@@ -26,21 +25,17 @@ marked Denied kind = Denied
 abbrev pub entry_marked : {V : Type 0} → Kind → Bool → Entry V → Entry V
 entry_marked kind here e = record { card = e.card; read = e.read; value = e.value; mark = cond here (marked e.mark kind) e.mark }
 
--- The entry with this number, from 1, is marked; the others stay.
-abbrev pub entries_marked : {V : Type 0} → Kind → ℕ → Few (Entry V) → Few (Entry V)
-entries_marked kind number Nothing = Nothing
-entries_marked kind number (One a) = One (entry_marked kind (number == 1) a)
-entries_marked kind number (Two a b) = Two (entry_marked kind (number == 1) a) (entry_marked kind (number == 2) b)
-entries_marked kind number (Three a b c) = Three (entry_marked kind (number == 1) a) (entry_marked kind (number == 2) b) (entry_marked kind (number == 3) c)
-entries_marked kind number (Four a b c d) = Four (entry_marked kind (number == 1) a) (entry_marked kind (number == 2) b) (entry_marked kind (number == 3) c) (entry_marked kind (number == 4) d)
-
-abbrev pub transaction_marked : {V : Type 0} → Kind → ℕ → Transaction V → Transaction V
-transaction_marked kind number x = record { time = x.time; rule = x.rule; argument = x.argument; entries = entries_marked kind number x.entries }
-
--- Some entries, numbered from a number on, with the one of this number marked.
+-- Some entries, numbered from a number on, with the one of this number marked; the others stay.
 abbrev pub marked_from : {V : Type 0} → Kind → ℕ → ℕ → List (Entry V) → List (Entry V)
 marked_from kind number from [] = []
 marked_from kind number from (e ∷ es) = entry_marked kind (number == from) e ∷ marked_from kind number (from + 1) es
+
+-- The entry with this number, from 1, is marked; the others stay.
+abbrev pub entries_marked : {V : Type 0} → Kind → ℕ → Few (Entry V) → Few (Entry V)
+entries_marked kind number es = few_of (marked_from kind number 1 (few_list es))
+
+abbrev pub transaction_marked : {V : Type 0} → Kind → ℕ → Transaction V → Transaction V
+transaction_marked kind number x = record { time = x.time; rule = x.rule; argument = x.argument; entries = entries_marked kind number x.entries }
 
 -- There is such a transaction, and it has a line with this number, from 1.
 abbrev pub has_line : {V : Type 0} → Option (Transaction V) → ℕ → Bool

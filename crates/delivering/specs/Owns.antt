@@ -1,5 +1,6 @@
 -- Where a site keeps its own transaction with a time. Assumes nothing.
-use Rattle.std.specs.Prelude.{ℕ, ◌+◌, Bool, cond, ◌&&◌, List, [], ◌∷◌, length, Some, None, Option, ◌==◌}
+use Rattle.std.specs.Prelude.{ℕ, Bool, ◌&&◌, List, length, Option, ◌==◌}
+use Rattle.std.specs.List.{position_from}
 use Rattle.terms.specs.Times.{site_of}
 use Rattle.records.specs.declared.card.Card.{Card}
 use Rattle.records.specs.declared.size.Size.{Size}
@@ -17,8 +18,7 @@ is_own size cards modes receiver time x =
 
 -- The place of the first that passes a test, where the list starts at a place.
 abbrev pub place_from : {X : Type 0} → (X → Bool) → ℕ → List X → Option ℕ
-place_from test i [] = None
-place_from test i (x ∷ xs) = cond (test x) (Some i) (place_from test (i + 1) xs)
+place_from test i xs = position_from test i xs
 
 abbrev pub own_place : {V : Type 0} → Size → List (Card V) → (ℕ → List ℕ) → ℕ → ℕ → List (Transaction V) → Option ℕ
 own_place size cards modes receiver time xs = place_from (is_own size cards modes receiver time) 0 xs

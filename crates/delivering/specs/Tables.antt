@@ -1,4 +1,5 @@
--- A table of records that a delivery writes one record into. Assumes nothing.
+-- A table of records that a delivery writes one record into: what a call that extends it by one record leaves. Assumes
+-- nothing.
 use Rattle.std.specs.Prelude.{ℕ, ◌+◌, cond, List, length, nat_lt, slice_set}
 
 -- A record is written behind the used ones if one is free.

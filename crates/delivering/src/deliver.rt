@@ -21,8 +21,7 @@ use terms::time::VirtualTime;
 pub fn raise(counter: u32, time: u32) -> u32
     ensures { result ≡ raised counter time }
 {
-    let heard = VirtualTime::of(time).counter;
-    if counter < heard { heard } else { counter }
+    counter.max(VirtualTime::from(time).counter)
 }
 
 // Whether both ends of a message are sites of the sitting, and its time is one that a transaction may have.
@@ -37,22 +36,17 @@ fn line_here<V: Copy>(view: &View<'_, V>, message: &Message<V>) -> bool
     ensures { result ≡ line_here (seen view.now) message.now }
 {
     let line = message.line;
-    match card::find(view.cards, view.size, line.card) {
-        Some(card) => {
-            line.present(view.size, view.cards) && card::names(card.holders, message.to)
-        }
-        None => false,
-    }
+    let card = view.table.find(line.card);
+    line.present(&view.table) && card.is_some_and(|card| card::names(card.holders, message.to))
 }
 
 // Whether the receiver is the primary of the message's card.
 fn is_primary<V: Copy>(view: &View<'_, V>, message: &Message<V>) -> bool
     ensures { result ≡ is_primary (card_of (seen view.now) message.now) message.now.to }
 {
-    match card::find(view.cards, view.size, message.line.card) {
-        Some(card) => card.primary == message.to,
-        None => false,
-    }
+    view.table
+        .find(message.line.card)
+        .is_some_and(|card| card.primary == message.to)
 }
 
 // Whether the message tells what one of its kind can tell this receiver.
@@ -73,7 +67,8 @@ fn is_expected<V: Copy>(
     }
 }
 
-// What the receiver does with a message that is not foreign.
+// What the receiver does with a message that is not foreign: by its kind, with guards on what is known, as the rules have
+// it.
 fn effect_of<V: Copy>(
     view: &View<'_, V>,
     own: Option<Transaction<V>>,
@@ -98,8 +93,9 @@ fn effect_of<V: Copy>(
     }
 }
 
-// What a delivery to the site of this view does, beside the receiver's own transaction with the message's time, if there
-// is one.
+// What a delivery to the site of this view does, beside the receiver's own transaction with the message's time, if
+// there is one.
+#[tactic(auto, using(crate::proofs::Arriving::delivers_as))]
 pub fn deliver<V: Copy>(
     view: &View<'_, V>,
     room: Room,
@@ -110,10 +106,10 @@ pub fn deliver<V: Copy>(
     ensures arrives { DeliversAs (seen view.now) (kind_of message.now.kind) message.now result }
     ensures answers { AnswersAs (seen view.now) (kind_of message.now.kind) message.now result }
 {
-    let Some(kind) = Kind::of(message.kind) else {
+    let Ok(kind) = Kind::try_from(message.kind) else {
         return Err(SiteFault::Foreign);
     };
-    if !in_range(view.size, message) || !is_expected(view, own, kind, message) {
+    if !in_range(view.table.size, message) || !is_expected(view, own, kind, message) {
         return Err(SiteFault::Foreign);
     }
     let effect = effect_of(view, own, kind, message);

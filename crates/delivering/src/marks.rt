@@ -1,14 +1,14 @@
 // What a reply leaves on the transaction whose line it answers.
-ghost use Rattle.std.specs.Prelude.{◌≡◌};
+ghost use Rattle.std.specs.Prelude.{◌≡◌, true};
 ghost use Rattle.terms.specs.Few.{few_list};
-ghost use Rattle.delivering.specs.Marks.{marked, entry_marked, entries_marked, transaction_marked, marked_from, has_line, PresentAlike};
+ghost use Rattle.delivering.specs.Marks.{marked, entry_marked, transaction_marked, marked_from, has_line, PresentAlike};
 
 use records::transaction::{Entry, Transaction};
 use terms::few::Few;
 use terms::kind::Kind;
 use terms::mark::Mark;
 
-// The mark that a message of this kind leaves in place of another.
+// The mark that a message of this kind leaves in place of another: by both, as the rules have it.
 fn next_mark(mark: Mark, kind: Kind) -> Mark
     ensures { result ≡ marked mark kind }
 {
@@ -19,41 +19,26 @@ fn next_mark(mark: Mark, kind: Kind) -> Mark
     }
 }
 
-fn mark_entry<V: Copy>(entry: Entry<V>, here: bool, kind: Kind) -> Entry<V>
-    ensures { result ≡ entry_marked kind here entry }
+fn mark_entry<V: Copy>(entry: Entry<V>, kind: Kind) -> Entry<V>
+    ensures { result ≡ entry_marked kind true entry }
 {
-    if here {
-        Entry {
-            mark: next_mark(entry.mark, kind),
-            ..entry
-        }
-    } else {
-        entry
+    Entry {
+        mark: next_mark(entry.mark, kind),
+        ..entry
     }
 }
 
+// The entries, numbered from 1, with the one of this number marked.
 fn mark_entries<V: Copy>(entries: Few<Entry<V>>, number: u32, kind: Kind) -> Few<Entry<V>>
-    ensures { result ≡ entries_marked kind number entries }
+    ensures { few_list result ≡ marked_from kind number 1 (few_list entries) }
 {
-    match entries {
-        Few::Nothing => Few::Nothing,
-        Few::One(a) => Few::One(mark_entry(a, number == 1, kind)),
-        Few::Two(a, b) => Few::Two(
-            mark_entry(a, number == 1, kind),
-            mark_entry(b, number == 2, kind),
-        ),
-        Few::Three(a, b, c) => Few::Three(
-            mark_entry(a, number == 1, kind),
-            mark_entry(b, number == 2, kind),
-            mark_entry(c, number == 3, kind),
-        ),
-        Few::Four(a, b, c, d) => Few::Four(
-            mark_entry(a, number == 1, kind),
-            mark_entry(b, number == 2, kind),
-            mark_entry(c, number == 3, kind),
-            mark_entry(d, number == 4, kind),
-        ),
-    }
+    entries.zip(Few::Four(1, 2, 3, 4)).map(|(entry, n)| {
+        if n == number {
+            mark_entry(entry, kind)
+        } else {
+            entry
+        }
+    })
 }
 
 // The transaction with the line of this number marked, from 1; all else stays, and a record in range stays so.
@@ -72,8 +57,5 @@ pub fn mark_line<V: Copy>(x: Transaction<V>, number: u32, kind: Kind) -> Transac
 pub fn asks<V: Copy>(own: Option<Transaction<V>>, number: u32) -> bool
     ensures { result ≡ has_line own number }
 {
-    match own {
-        Some(x) => 1 <= number && number as usize <= x.entries.len(),
-        None => false,
-    }
+    own.is_some_and(|x| 1 <= number && number as usize <= x.entries.len())
 }

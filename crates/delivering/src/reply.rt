@@ -14,7 +14,7 @@ pub fn reply_to<V: Copy>(message: Message<V>, kind: Kind) -> Message<V>
     ensures { result ≡ reply_of kind message }
 {
     Message {
-        kind: kind.number(),
+        kind: kind.into(),
         from: message.to,
         to: message.from,
         line: message.line,
@@ -27,12 +27,10 @@ pub fn reply<V: Copy, C: Carrier<V>>(
     message: Message<V>,
     effect: &Effect<V>,
 ) -> Result<(), CarrierFault>
-    ensures did { PutOf (C.Carrier.waiting carrier.old) (C.Carrier.limit carrier.old) (replies effect.now message) result (C.Carrier.waiting carrier.new) }
-    ensures same { C.Carrier.limit carrier.new ≡ C.Carrier.limit carrier.old }
+    ensures { PutOf (C.Carrier.queue carrier.old) (replies effect.now message) result (C.Carrier.queue carrier.new) }
 {
-    match effect {
-        Effect::Confirms => carrier.put(reply_to(message, Kind::Confirm)),
-        Effect::Denies => carrier.put(reply_to(message, Kind::Deny)),
-        Effect::Nothing | Effect::Lands | Effect::Marks(_) | Effect::Records(_) => Ok(()),
+    match effect.reply_kind() {
+        Some(kind) => carrier.put(reply_to(message, kind)),
+        None => Ok(()),
     }
 }

@@ -10,20 +10,16 @@ use Rattle.knowledge.specs.declared.judge.Judgement.TheVariants.{Dropped, Confir
 use Rattle.knowledge.specs.declared.versions.Version.{Version}
 use Rattle.knowledge.specs.Knowledge.{Site}
 use Rattle.knowledge.specs.Versions.{current, committed_value}
-use Rattle.desk.specs.declared.play.Play.{Play}
 use Rattle.desk.specs.declared.reply.Reply.{Reply}
 use Rattle.desk.specs.declared.reply.Reply.TheVariants.{Bad, Late, Opened, Judged, Recorded, Values}
 use Rattle.desk.specs.declared.reply.Summary.{Summary}
-use Rattle.desk.specs.Steps.{site_of, unopened, is_open, open_after, line_answer, line_after, verdict_answer, verdict_after}
+use Rattle.desk.specs.Steps.{unopened, is_open, open_after, line_answer, line_after, verdict_answer, verdict_after}
 
 -- The primary's records, and how many lines it confirmed and denied.
 pub record Desk : Type 0 where
   pub site : Site Date
   pub confirmed : ℕ
   pub denied : ℕ
-
-abbrev pub desk_of : Play → Desk
-desk_of p = record { site = site_of p.primary; confirmed = p.confirmed; denied = p.denied }
 
 abbrev pub fresh : Desk
 fresh = record { site = unopened; confirmed = 0; denied = 0 }

@@ -1,5 +1,5 @@
 -- What the primary of one card does with what arrives. Assumes nothing.
-use Rattle.std.specs.Prelude.{Bool, cond, ◌&&◌, [], ◌∷◌, ◌++◌, length, is_some, Ok, Err, vec_items, Result, nat_le, nat_lt}
+use Rattle.std.specs.Prelude.{Bool, cond, ◌&&◌, [], ◌∷◌, ◌++◌, length, is_some, Ok, Err, Result, nat_le, nat_lt}
 use Rattle.records.specs.declared.line.Line.{Line}
 use Rattle.records.specs.declared.size.Size.{Size}
 use Rattle.records.specs.declared.verdict.Verdict.{Verdict}
@@ -9,14 +9,11 @@ use Rattle.site.specs.declared.fault.SiteFault.TheVariants.{Foreign}
 use Rattle.knowledge.specs.declared.judge.Judgement.{Judgement}
 use Rattle.knowledge.specs.Arrivals.{judged, lands, line_arrives, verdict_arrives, after}
 use Rattle.knowledge.specs.Knowledge.{Site, known}
-use Rattle.desk.specs.declared.primary.Primary.{Primary}
+use Rattle.desk.specs.declared.register.Full.{Full}
 
 -- One of eight sites, in a sitting of at most 32 transactions.
 abbrev pub desk_size : Size
 desk_size = record { sites = 8; transactions = 32 }
-
-abbrev pub site_of : {V : Type 0} → Primary V → Site V
-site_of p = record { size = desk_size; cards = vec_items p.cards; lines = vec_items p.lines; verdicts = vec_items p.verdicts }
 
 -- No card, line or verdict yet.
 abbrev pub unopened : {V : Type 0} → Site V
@@ -31,6 +28,9 @@ with_card site v =
     record { size = site.size; cards = site.cards ++ record { opening = v; holders = 1; primary = 0 } ∷ []; lines = site.lines; verdicts = site.verdicts }
 
 -- A card is opened once.
+abbrev pub open_answer : {V : Type 0} → Site V → Result (Unit {0}) Full
+open_answer site = cond (is_open site) (Err (record {})) (Ok tt)
+
 abbrev pub open_after : {V : Type 0} → Site V → V → Site V
 open_after site v = cond (is_open site) site (with_card site v)
 

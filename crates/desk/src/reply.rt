@@ -4,7 +4,7 @@ use knowledge::judge::Judgement;
 use knowledge::versions::Version;
 use site::fault::SiteFault;
 
-#[derive(Drop)]
+#[derive(Clone, Copy, Debug, PartialEq, Eq)]
 pub enum Reply {
     // the line has no known form; the number of its first bad field
     Bad(u32),
@@ -18,7 +18,7 @@ pub enum Reply {
 }
 
 // How many lines were judged, confirmed and denied, and what the card reads, if it is open.
-#[derive(Drop)]
+#[derive(Clone, Copy, Debug, PartialEq, Eq)]
 pub struct Summary {
     pub judged: u64,
     pub confirmed: u64,

@@ -1,5 +1,5 @@
 -- The number of a bad field is never 0. Assumes nothing.
-use Rattle.std.proofs.Common.{◌≡◌, ℕ, ◌+◌, Bool, true, false, cond, eqb, leb, List, length, is_ok, Some, None, Ok, Err, Result, refl, arith}
+use Rattle.std.proofs.Common.{◌≡◌, ℕ, ◌+◌, Bool, true, false, cond, eqb, leb, List, length, is_ok, Some, None, Ok, Err, Result, refl, ap, ◌∙◌, arith}
 use Rattle.std.proofs.lemmas.Bool.{ne_eqb}
 use Rattle.script.specs.Forms.{Form, ends, wants, may_end, read, parsed, line_parsed}
 use Rattle.script.specs.Pieces.{fields, head, others, empty}
@@ -27,8 +27,8 @@ line_agree : {X : Type 0} (form : Form X) (line : List ℕ) → Agree (line_pars
 line_agree form line =
     elim (leb (length line) 80) as (λ b. Agree (cond b (parsed form 1 (fields line)) (Err 1))) [ true ↦ agree form 0 (fields line) | false ↦ bad 0 ]
 
-pub good : (book : ℕ) (line : List ℕ) → eqb (line_check book line) 0 ≡ has_form book line
-good book line = by (eqb book 1) (eqb book 2)
+pub good : (book : ℕ) (line : List ℕ) (told : ℕ) → told ≡ line_check book line → eqb told 0 ≡ has_form book line
+good book line told is = ap (λ n. eqb n 0) is ∙ by (eqb book 1) (eqb book 2)
   where
     by : (one two : Bool) → eqb (cond one (bad_field (command_form numeral line)) (cond two (bad_field (command_form date_text line)) 1)) 0 ≡ cond one (is_ok (command_form numeral line)) (cond two (is_ok (command_form date_text line)) false)
     by true two = line_agree (command_fields numeral) line

@@ -1,5 +1,5 @@
 -- What the calls from C answer. Assumes nothing.
-use Rattle.std.specs.Prelude.{ℕ, ◌^◌, Bool, false, cond, ◌&&◌, List, is_ok, Some, None, Ok, Err, Option, Result, ◌==◌, nat_lt}
+use Rattle.std.specs.Prelude.{ℕ, Bool, false, cond, List, is_ok, Some, None, Ok, Err, Option, Result, ◌==◌}
 use Rattle.books.specs.Dates.{earlier}
 use Rattle.books.specs.declared.date.Date.{Date}
 use Rattle.commands.specs.Commands.{command_form}
@@ -21,11 +21,6 @@ abbrev pub has_form : ℕ → List ℕ → Bool
 has_form book line =
     cond (book == 1) (is_ok (command_form numeral line))
     (cond (book == 2) (is_ok (command_form date_text line)) false)
-
--- The date with these numbers, if they have 16, 8 and 8 bits.
-abbrev pub date_of : ℕ → ℕ → ℕ → Option Date
-date_of year month day =
-    cond (nat_lt year (2 ^ 16) && (nat_lt month (2 ^ 8) && nat_lt day (2 ^ 8))) (Some (record { year = year; month = month; day = day })) None
 
 -- 1: the first is earlier; 2: the second is; 0: neither is; 3: one of them is no date.
 abbrev pub dates_compared : Option Date → Option Date → ℕ

@@ -1,16 +1,14 @@
 // The comparison of two dates.
 ghost use Rattle.std.specs.Prelude.{◌≡◌};
-ghost use Rattle.host_calls.specs.Calls.{date_of, dates_compared};
+ghost use Rattle.books.specs.Dates.{date_of};
+ghost use Rattle.host_calls.specs.Calls.{dates_compared};
 
 use books::date::Date;
 
 fn date_of(year: u32, month: u32, day: u32) -> Option<Date>
     ensures { result ≡ date_of year month day }
 {
-    let year = u16::try_from(year).ok()?;
-    let month = u8::try_from(month).ok()?;
-    let day = u8::try_from(day).ok()?;
-    Some(Date { year, month, day })
+    Date::try_from((year, month, day)).ok()
 }
 
 // 1 if the first date is earlier, 2 if the second is, 0 if neither is; a blank date is later than any other.
@@ -26,10 +24,10 @@ pub extern "C" fn cabinet_compare_dates(
 ) -> u32
     ensures { result ≡ dates_compared (date_of first_year first_month first_day) (date_of second_year second_month second_day) }
 {
-    let Some(first) = date_of(first_year, first_month, first_day) else {
-        return 3;
-    };
-    let Some(second) = date_of(second_year, second_month, second_day) else {
+    let (Some(first), Some(second)) = (
+        date_of(first_year, first_month, first_day),
+        date_of(second_year, second_month, second_day),
+    ) else {
         return 3;
     };
     if first.earlier_than(second) {

@@ -1,3 +1,4 @@
 pub mod Guards
 pub mod Guesses
 pub mod Lines
+pub mod Found

@@ -1,18 +1,13 @@
 -- What a search over a site's lines keeps from turn to turn. Assumes nothing.
-use Rattle.std.proofs.Common.{◌≡◌, ℕ, ◌+◌, ◌<◌, Bool, true, false, cond, ◌&&◌, eqb, List, [], ◌∷◌, map, length, get_or, drop, is_some, filter, sym, refl, ap, ◌∙◌, ⊎_elim, arith}
+use Rattle.std.proofs.Common.{◌≡◌, ℕ, Bool, true, false, cond, ◌&&◌, eqb, List, [], ◌∷◌, map, fold, is_some, filter, refl, ap, ◌∙◌, ⊎_elim, arith}
 use Rattle.std.specs.List.{best_of}
-use Rattle.std.proofs.lemmas.List.{at_drop_more}
 use Rattle.std.proofs.lemmas.Bool.{cases_Bool, cond-false, eqb-true, and_right}
 use Rattle.std.proofs.lemmas.Bool.Decides.{nat_tests}
 use Rattle.records.specs.declared.line.Line.{Line}
 use Rattle.records.specs.Present.{line_present, card_at}
 use Rattle.knowledge.specs.declared.versions.Version.{Version}
 use Rattle.knowledge.specs.Knowledge.{Site}
-use Rattle.knowledge.specs.Versions.{written, later, version_of}
-
--- One step of a function of what is left of a list, at the element as it was read.
-pub at_drop_read : {X Y : Type 0} (F : List X → Y) (xs : List X) (i : ℕ) (x : X) → i < length xs → x ≡ get_or xs i x → F (drop i xs) ≡ F (x ∷ drop (i + 1) xs)
-at_drop_read F xs i x h read = at_drop_more F xs i x h ∙ ap (λ y. F (y ∷ drop (i + 1) xs)) (sym read)
+use Rattle.knowledge.specs.Versions.{written, later, version_of, taken_in}
 
 module _ {V : Type 0} (site : Site V) (card : ℕ) (absent : is_some (card_at site.size site.cards card) ≡ false) where
   not_present : (l : Line V) → eqb l.card card ≡ true → line_present site.size site.cards l ≡ false
@@ -44,9 +39,9 @@ one_more : {V : Type 0} (w : Bool) (best : Version V) (l : Line V) (ls : List (L
 one_more true best l ls = ap (λ b. best_of later (cond b (version_of l) best) (map version_of ls)) (and_true (later (version_of l) best))
 one_more false best l ls = ap (λ b. best_of later (cond b (version_of l) best) (map version_of ls)) (and_right (later (version_of l) best) false refl)
 
--- A turn of the search takes in the line at place i.
-pub best_left_more : {V : Type 0} (site : Site V) (settled : Bool) (card : ℕ) (best next : Version V) (i : ℕ) (l : Line V) → i < length site.lines → l ≡ get_or site.lines i l → next ≡ cond (later (version_of l) best && written site settled card l) (version_of l) best → best_left site settled card next (drop (i + 1) site.lines) ≡ best_left site settled card best (drop i site.lines)
-best_left_more site settled card best next i l h read is =
-    ap (λ b. best_left site settled card b (drop (i + 1) site.lines)) is
-    ∙ one_more (written site settled card l) best l (filter (written site settled card) (drop (i + 1) site.lines))
-    ∙ sym (at_drop_read (best_left site settled card best) site.lines i l h read)
+-- Taking in line after line leaves the best.
+pub taken_best : {V : Type 0} (site : Site V) (settled : Bool) (card : ℕ) (best : Version V) (ls : List (Line V)) → fold (taken_in site settled card) best ls ≡ best_left site settled card best ls
+taken_best site settled card best [] = refl
+taken_best site settled card best (l ∷ ls) =
+    taken_best site settled card (taken_in site settled card best l) ls
+    ∙ one_more (written site settled card l) best l (filter (written site settled card) ls)

@@ -17,7 +17,7 @@ pub record Site (V : Type 0) : Type 0 where
   pub verdicts : List Verdict
 
 abbrev pub seen : {V : Type 0} → View V → Site V
-seen v = record { size = v.size; cards = v.cards.now; lines = v.lines.now; verdicts = v.verdicts.now }
+seen v = record { size = v.table.size; cards = v.table.cards.now; lines = v.lines.now; verdicts = v.verdicts.now }
 
 -- The outcome that the verdicts in range tell of a time: of equal records the first.
 abbrev pub verdict_on : Size → List Verdict → ℕ → Option Outcome

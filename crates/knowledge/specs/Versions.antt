@@ -1,5 +1,5 @@
 -- The versions and reservations of a card at one site. Assumes nothing.
-use Rattle.std.specs.Prelude.{ℕ, Bool, true, false, ◌&&◌, List, [], ◌∷◌, ◌++◌, map, Some, None, filter, Option, ◌==◌, nat_lt}
+use Rattle.std.specs.Prelude.{ℕ, Bool, true, false, cond, ◌&&◌, List, [], ◌∷◌, ◌++◌, map, Some, None, filter, Option, ◌==◌, nat_lt}
 use Rattle.std.specs.List.{best_of}
 use Rattle.records.specs.declared.card.Card.{Card}
 use Rattle.records.specs.declared.line.Line.{Line}
@@ -33,6 +33,10 @@ versions site settled card =
 
 abbrev pub later : {V : Type 0} → Version V → Version V → Bool
 later x y = nat_lt y.time x.time
+
+-- The better of the best version so far and a line, if that is a version; of equal times the first stays.
+abbrev pub taken_in : {V : Type 0} → Site V → Bool → ℕ → Version V → Line V → Version V
+taken_in site settled card best l = cond (later (version_of l) best && written site settled card l) (version_of l) best
 
 -- The first version of highest time.
 abbrev pub highest : {V : Type 0} → List (Version V) → Option (Version V)

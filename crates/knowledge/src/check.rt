@@ -1,5 +1,6 @@
 // The primary's check of a line, by the guesses that its transaction made.
 ghost use Rattle.std.specs.Prelude.{◌≡◌};
+ghost use Rattle.std.specs.List.{list_any};
 ghost use Rattle.knowledge.specs.Knowledge.{seen};
 ghost use Rattle.knowledge.specs.Check.{reserves, guess_holds, guess_fails, upsets, denied};
 
@@ -7,8 +8,8 @@ use crate::view::View;
 use records::line::Line;
 use terms::mode;
 
-// The two guesses of a transaction that a primary checks.
-#[derive(Clone, Copy)]
+// The two guesses of a transaction that a primary checks: cases of one definition, and so an enum and no closures.
+#[derive(Clone, Copy, Debug, PartialEq, Eq)]
 pub enum Guess {
     // no version of the card lies strictly between the time read and the line's time
     ReadLatest,
@@ -34,15 +35,18 @@ impl<'a, V: Copy> View<'a, V> {
         made && !self.holds(guess, line)
     }
 
+    #[tactic(auto, using(crate::proofs::Guesses::guess_upset))]
     fn holds(&self, guess: Guess, line: &Line<V>) -> bool
         ensures { result ≡ guess_holds (seen self.now) guess line.now }
     {
-        for l in self.lines {
-            if self.upsets(guess, line, l) {
-                return false;
-            }
-        }
-        true
+        !self.is_upset(guess, line)
+    }
+
+    // Whether some landed line upsets the guess.
+    fn is_upset(&self, guess: Guess, line: &Line<V>) -> bool
+        ensures { result ≡ list_any (upsets (seen self.now) guess line.now) self.now.lines.now }
+    {
+        self.lines.iter().any(|l| self.upsets(guess, line, l))
     }
 
     // Whether a landed line is one for which the guess does not hold. The interval is looked at first, so that no
@@ -63,6 +67,6 @@ impl<'a, V: Copy> View<'a, V> {
     fn reserves(&self, number: u32, l: &Line<V>) -> bool
         ensures { result ≡ reserves (seen self.now) number l.now }
     {
-        l.card == number && l.present(self.size, self.cards) && self.stands(false, l.time)
+        l.card == number && l.present(&self.table) && self.stands(false, l.time)
     }
 }

@@ -5,8 +5,9 @@ ghost use Rattle.knowledge.specs.Knowledge.{seen};
 
 use crate::view::View;
 use records::line::Line;
+use std::fmt;
 
-#[derive(Clone, Copy)]
+#[derive(Clone, Copy, Debug, PartialEq, Eq)]
 pub enum Judgement {
     // its transaction is known as aborted: it does not land and is not answered
     Dropped,
@@ -14,6 +15,16 @@ pub enum Judgement {
     Confirmed,
     // it does not land, and a DENY answers it
     Denied,
+}
+
+impl fmt::Display for Judgement {
+    fn fmt<W: fmt::Write>(&self, f: &mut fmt::Formatter<W>) -> fmt::Result {
+        f.write_str(match self {
+            Judgement::Dropped => "dropped",
+            Judgement::Confirmed => "confirm",
+            Judgement::Denied => "deny",
+        })
+    }
 }
 
 impl<'a, V: Copy> View<'a, V> {

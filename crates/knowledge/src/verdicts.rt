@@ -1,5 +1,8 @@
 // The search for a verdict.
-ghost use Rattle.std.specs.Prelude.{◌≡◌};
+ghost use Rattle.std.specs.Prelude.{◌≡◌, ◌&&◌, ◌==◌};
+ghost use Rattle.std.specs.List.{find};
+ghost use Rattle.records.specs.declared.verdict.Verdict.{Verdict};
+ghost use Rattle.records.specs.Present.{verdict_present};
 ghost use Rattle.knowledge.specs.Knowledge.{known, verdict_on, aborted, committed, seen};
 
 use crate::view::View;
@@ -7,16 +10,21 @@ use records::size::Size;
 use records::verdict::Verdict;
 use terms::outcome::Outcome;
 
+// The first verdict in range on a time.
+fn first_on(size: Size, verdicts: &[Verdict], time: u32) -> Option<Verdict>
+    ensures { result ≡ find (λ (v : Verdict). verdict_present size v && v.time == time) verdicts.now }
+{
+    verdicts
+        .iter()
+        .copied()
+        .find(|v| v.present(size) && v.time == time)
+}
+
 // The outcome that the verdicts tell of a time: of equal records the first found.
 fn verdict_on(size: Size, verdicts: &[Verdict], time: u32) -> Option<Outcome>
     ensures { result ≡ verdict_on size verdicts.now time }
 {
-    for v in verdicts {
-        if v.present(size) && v.time == time {
-            return Some(v.outcome);
-        }
-    }
-    None
+    Some(first_on(size, verdicts, time)?.outcome)
 }
 
 impl<'a, V: Copy> View<'a, V> {
@@ -24,18 +32,18 @@ impl<'a, V: Copy> View<'a, V> {
     pub fn known(&self, time: u32) -> Option<Outcome>
         ensures { result ≡ known (seen self.now) time }
     {
-        verdict_on(self.size, self.verdicts, time)
+        verdict_on(self.table.size, self.verdicts, time)
     }
 
     pub fn aborted(&self, time: u32) -> bool
         ensures { result ≡ aborted (seen self.now) time }
     {
-        matches!(self.known(time), Some(Outcome::Abort))
+        self.known(time) == Some(Outcome::Abort)
     }
 
     pub fn committed(&self, time: u32) -> bool
         ensures { result ≡ committed (seen self.now) time }
     {
-        matches!(self.known(time), Some(Outcome::Commit))
+        self.known(time) == Some(Outcome::Commit)
     }
 }

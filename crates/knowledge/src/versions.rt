@@ -1,16 +1,15 @@
 // The versions of a card at one site, its current and its committed value.
-ghost use Rattle.std.specs.Prelude.{◌≡◌, ◌&&◌, if◌then◌else◌};
+ghost use Rattle.std.specs.Prelude.{◌≡◌, fold};
 ghost use Rattle.knowledge.specs.Knowledge.{seen, known, stands};
-ghost use Rattle.knowledge.specs.Versions.{written, later, version_of, highest, versions, current, committed_value};
+ghost use Rattle.knowledge.specs.Versions.{written, taken_in, highest, versions, current, committed_value};
 
 use crate::view::View;
-use records::card;
 use records::line::Line;
 use terms::mode;
 use terms::outcome::Outcome;
 
 // A value of a card and the virtual time at which it was written.
-#[derive(Clone, Copy)]
+#[derive(Clone, Copy, Debug, PartialEq, Eq)]
 pub struct Version<V> {
     pub time: u32,
     pub value: V,
@@ -32,24 +31,31 @@ impl<'a, V: Copy> View<'a, V> {
         self.highest(number, true)
     }
 
-    // The first version of highest time, of all or of those known as committed.
+    // The first version of highest time, of all or, where `settled`, of those known as committed, as the definition has
+    // it.
     fn highest(&self, number: u32, settled: bool) -> Option<Version<V>>
         ensures { result ≡ highest (versions (seen self.now) settled number) }
     {
-        let card = card::find(self.cards, self.size, number)?;
-        let mut best = Version {
+        let card = self.table.find(number)?;
+        let opening = Version {
             time: 0,
             value: card.opening,
         };
-        for l in self.lines {
-            best = self.take_in(number, settled, best, l);
-        }
-        Some(best)
+        Some(self.best_from(number, settled, opening))
+    }
+
+    // The best of a version and those among the landed lines.
+    fn best_from(&self, number: u32, settled: bool, first: Version<V>) -> Version<V>
+        ensures { result ≡ fold (taken_in (seen self.now) settled number) first self.now.lines.now }
+    {
+        self.lines
+            .iter()
+            .fold(first, |best, l| self.take_in(number, settled, best, l))
     }
 
     // The better of the best version so far and a line, if that is a version.
     fn take_in(&self, number: u32, settled: bool, best: Version<V>, l: &Line<V>) -> Version<V>
-        ensures { result ≡ (if later (version_of l.now) best && written (seen self.now) settled number l.now then version_of l.now else best) }
+        ensures { result ≡ taken_in (seen self.now) settled number best l.now }
     {
         if l.time <= best.time {
             return best;
@@ -70,7 +76,7 @@ impl<'a, V: Copy> View<'a, V> {
     {
         l.card == number
             && mode::does_write(l.mode)
-            && l.present(self.size, self.cards)
+            && l.present(&self.table)
             && self.stands(settled, l.time)
     }
 

@@ -10,7 +10,7 @@ mod tests {
     use knowledge::judge::Judgement;
     use knowledge::versions::Version;
     use knowledge::view::View;
-    use records::card::Card;
+    use records::card::{Card, CardTable};
     use records::line::Line;
     use records::size::Size;
     use records::verdict::Verdict;
@@ -49,6 +49,22 @@ mod tests {
         Verdict { time, outcome }
     }
 
+    fn version(time: u32, value: u32) -> Version<u32> {
+        Version { time, value }
+    }
+
+    fn view<'a>(
+        cards: &'a [Card<u32>],
+        lines: &'a [Line<u32>],
+        verdicts: &'a [Verdict],
+    ) -> View<'a, u32> {
+        View {
+            table: CardTable { size: SIZE, cards },
+            lines,
+            verdicts,
+        }
+    }
+
     // Five lines that count as absent: by mode, number, time, card and time read.
     fn damaged() -> [Line<u32>; 5] {
         [
@@ -66,14 +82,6 @@ mod tests {
         ]
     }
 
-    // The number of the outcome that is known; 0 if none is.
-    fn told(outcome: Option<Outcome>) -> u32 {
-        match outcome {
-            Some(outcome) => outcome.number(),
-            None => 0,
-        }
-    }
-
     #[test]
     fn verdicts(rt: HostRuntime) {
         let cards = [card(3, 0)];
@@ -84,29 +92,25 @@ mod tests {
             verdict(72, Outcome::Abort),
             verdict(16, Outcome::Commit),
         ];
-        let view = View {
-            size: SIZE,
-            cards: &cards,
-            lines: &[],
-            verdicts: &verdicts,
-        };
-        for (time, expected) in [(9, 2), (16, 1), (7, 0), (72, 0), (17, 0), (0, 0)] {
-            assert_eq!(rt; told(view.known(time)), expected);
-            assert_eq!(rt; view.aborted(time), expected == 2);
-            assert_eq!(rt; view.committed(time), expected == 1);
+        let view = view(&cards, &[], &verdicts);
+        let expected = [
+            (9, Some(Outcome::Abort)),
+            (16, Some(Outcome::Commit)),
+            (7, None),
+            (72, None),
+            (17, None),
+            (0, None),
+        ];
+        for (time, outcome) in expected {
+            assert_eq!(rt; view.known(time), outcome);
+            assert_eq!(rt; view.aborted(time), outcome == Some(Outcome::Abort));
+            assert_eq!(rt; view.committed(time), outcome == Some(Outcome::Commit));
         }
     }
 
-    // A version's time and value; none is (0, 0).
-    fn shown(version: Option<Version<u32>>) -> (u32, u32) {
-        match version {
-            Some(version) => (version.time, version.value),
-            None => (0, 0),
-        }
-    }
-
+    // Verdicts, and the current and the committed value that they leave.
     #[derive(Clone, Copy)]
-    struct ValueCase<'a>(&'a [Verdict], (u32, u32), (u32, u32));
+    struct ValueCase<'a>(&'a [Verdict], Version<u32>, Version<u32>);
 
     #[test]
     fn values(rt: HostRuntime) {
@@ -125,38 +129,45 @@ mod tests {
             e,
         ];
         let cases = [
-            ValueCase(&[], (17, 2), (0, 500)),
-            ValueCase(&[verdict(9, Outcome::Commit)], (17, 2), (9, 1)),
-            ValueCase(&[verdict(17, Outcome::Commit)], (17, 2), (17, 2)),
-            ValueCase(&[verdict(17, Outcome::Abort)], (9, 1), (0, 500)),
+            ValueCase(&[], version(17, 2), version(0, 500)),
+            ValueCase(
+                &[verdict(9, Outcome::Commit)],
+                version(17, 2),
+                version(9, 1),
+            ),
+            ValueCase(
+                &[verdict(17, Outcome::Commit)],
+                version(17, 2),
+                version(17, 2),
+            ),
+            ValueCase(
+                &[verdict(17, Outcome::Abort)],
+                version(9, 1),
+                version(0, 500),
+            ),
             ValueCase(
                 &[verdict(17, Outcome::Abort), verdict(9, Outcome::Commit)],
-                (9, 1),
-                (9, 1),
+                version(9, 1),
+                version(9, 1),
             ),
             ValueCase(
                 &[verdict(9, Outcome::Abort), verdict(17, Outcome::Abort)],
-                (0, 500),
-                (0, 500),
+                version(0, 500),
+                version(0, 500),
             ),
             ValueCase(
                 &[verdict(25, Outcome::Commit), verdict(33, Outcome::Commit)],
-                (17, 2),
-                (0, 500),
+                version(17, 2),
+                version(0, 500),
             ),
         ];
         for ValueCase(verdicts, current, committed) in cases {
-            let view = View {
-                size: SIZE,
-                cards: &cards,
-                lines: &lines,
-                verdicts,
-            };
-            assert_eq!(rt; shown(view.current(0)), current);
-            assert_eq!(rt; shown(view.committed_value(0)), committed);
+            let view = view(&cards, &lines, verdicts);
+            assert_eq!(rt; view.current(0), Some(current));
+            assert_eq!(rt; view.committed_value(0), Some(committed));
             for absent in 1..5 {
-                assert!(rt; view.current(absent).is_none());
-                assert!(rt; view.committed_value(absent).is_none());
+                assert_eq!(rt; view.current(absent), None);
+                assert_eq!(rt; view.committed_value(absent), None);
             }
         }
     }
@@ -172,12 +183,7 @@ mod tests {
         verdicts: &'a [Verdict],
         cases: &[CheckCase],
     ) {
-        let view = View {
-            size: SIZE,
-            cards,
-            lines,
-            verdicts,
-        };
+        let view = view(cards, lines, verdicts);
         for CheckCase(mode, read, time, denied) in cases {
             assert_eq!(rt; view.denies(&line(*mode, *read, *time, 7)), *denied);
         }
@@ -288,28 +294,31 @@ mod tests {
         })
     }
 
-    // The number printed first after the word.
-    fn number(reply: Reply) -> u32 {
-        match reply {
-            Reply::Opened | Reply::Recorded(Ok(_)) | Reply::Judged(Ok(Judgement::Confirmed)) => 0,
-            Reply::Recorded(Err(SiteFault::Foreign)) | Reply::Judged(Err(SiteFault::Foreign)) => 17,
-            _ => 99,
-        }
-    }
-
     #[test]
     fn full_tables(rt: HostRuntime) -> Result<(), Fail> {
         let mut play = Play::new(rt.alloc())?;
-        assert_eq!(rt; number(play.answer(Ok(Arrival::Opening(Date::BLANK)))), 0);
+        assert_eq!(rt;
+            play.answer(Ok(Arrival::Opening(Date::BLANK))),
+            Reply::Opened
+        );
         for time in 8..136 {
-            assert_eq!(rt; number(play.answer(write(time))), 0);
+            assert_eq!(rt;
+                play.answer(write(time)),
+                Reply::Judged(Ok(Judgement::Confirmed))
+            );
         }
-        assert_eq!(rt; number(play.answer(write(136))), 17);
+        assert_eq!(rt;
+            play.answer(write(136)),
+            Reply::Judged(Err(SiteFault::Foreign))
+        );
         for time in 8..40 {
-            assert_eq!(rt; number(play.answer(commit(time))), 0);
+            assert_eq!(rt; play.answer(commit(time)), Reply::Recorded(Ok(())));
         }
-        assert_eq!(rt; number(play.answer(commit(40))), 17);
-        assert_eq!(rt; number(play.answer(commit(39))), 0);
+        assert_eq!(rt;
+            play.answer(commit(40)),
+            Reply::Recorded(Err(SiteFault::Foreign))
+        );
+        assert_eq!(rt; play.answer(commit(39)), Reply::Recorded(Ok(())));
         Ok(())
     }
 }

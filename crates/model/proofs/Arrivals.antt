@@ -8,7 +8,7 @@ use Rattle.terms.specs.declared.mark.Mark.{Mark}
 use Rattle.terms.specs.declared.mark.Mark.TheVariants.{Asked, Confirmed, Denied}
 use Rattle.terms.specs.declared.outcome.Outcome.{Outcome}
 use Rattle.terms.specs.declared.outcome.Outcome.TheVariants.{Commit, Abort}
-use Rattle.terms.specs.Kinds.{kind_number}
+use Rattle.terms.specs.Kinds.{kind_number, verdict_kind}
 use Rattle.terms.specs.Lists.{In}
 use Rattle.terms.specs.Times.{site_of}
 use Rattle.records.specs.declared.line.Line.{Line}
@@ -20,7 +20,6 @@ use Rattle.knowledge.specs.Knowledge.{verdict_on}
 use Rattle.delivering.specs.declared.effect.Effect.{Effect}
 use Rattle.delivering.specs.Effects.{landing, replies, recording, verdict_told}
 use Rattle.delivering.specs.Marks.{marked}
-use Rattle.settling.specs.Settling.{verdict_kind}
 use Rattle.steps.specs.Numbers.{stopped}
 use Rattle.model.specs.Rules.{Rules}
 use Rattle.model.proofs.State.{State, told, knows_at}

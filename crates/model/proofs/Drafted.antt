@@ -1,5 +1,5 @@
 -- The lines that a start drafts, one after the other. Assumes nothing.
-use Rattle.std.proofs.Common.{◌≡◌, ℕ, suc, ◌+◌, ◌<◌, ◌≤◌, Bool, true, false, cond, ◌⊎◌, List, [], ◌∷◌, ◌++◌, map, length, Some, None, filter, Option, unwrap_or, sym, refl, ap, ◌∙◌, subst, inl, inr, ⊎_elim, arith}
+use Rattle.std.proofs.Common.{◌≡◌, ℕ, suc, ◌+◌, ◌<◌, ◌≤◌, Bool, true, false, cond, ◌⊎◌, List, [], ◌∷◌, ◌++◌, map, length, is_some, Some, None, filter, Option, unwrap_or, sym, refl, ap, ◌∙◌, subst, inl, inr, ⊎_elim, arith}
 use Rattle.std.proofs.lemmas.Bool.{cond-true, cond-false, or_parts, both_ways, eq-eqb}
 use Rattle.terms.specs.Faults.{among}
 use Rattle.terms.specs.Lists.{In}
@@ -13,7 +13,8 @@ use Rattle.knowledge.specs.Knowledge.{Site}
 use Rattle.knowledge.specs.Versions.{opening_versions, written, version_of, highest, current}
 use Rattle.site.specs.declared.fault.SiteFault.{SiteFault}
 use Rattle.site.specs.declared.fault.SiteFault.TheVariants.{NoCard, CardTwice, NotHeld}
-use Rattle.starting.specs.Drafting.{held as held_by, is_there, card_fault, cards_fault, or_else, first_mark, drafted_line, still_to_write, drafted}
+use Rattle.site.specs.Lines.{is_holder}
+use Rattle.starting.specs.Drafting.{card_fault, cards_fault, or_else, first_mark, drafted_line, still_to_write, drafted}
 use Rattle.model.proofs.Lots.{Lot, lot, lots_from}
 use Rattle.model.proofs.Cases.{none_some}
 
@@ -36,7 +37,7 @@ fit {V} size cards origin before line number e = by_card (card_at size cards num
     by_tests card is false true was has h = record { card = card; card_is = is; held = has; new = was }
     by_tests card is false false was has h = absurd (none_some _ (sym h))
 
-    by_card : (o : Option (Card V)) → card_at size cards number ≡ o → cond (is_there o) (cond (among number before) (Some (CardTwice line)) (cond (held_by o origin) None (Some (NotHeld line)))) (Some (NoCard line)) ≡ None → Fit size cards origin before number
+    by_card : (o : Option (Card V)) → card_at size cards number ≡ o → cond (is_some o) (cond (among number before) (Some (CardTwice line)) (cond (is_holder o origin) None (Some (NotHeld line)))) (Some (NoCard line)) ≡ None → Fit size cards origin before number
     by_card None is h = absurd (none_some _ (sym h))
     by_card (Some card) is h = by_tests card is (among number before) (holds card.holders origin) refl refl h
 

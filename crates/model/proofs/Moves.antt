@@ -5,7 +5,7 @@ use Rattle.terms.specs.declared.kind.Kind.{Kind}
 use Rattle.terms.specs.declared.kind.Kind.TheVariants as kind
 use Rattle.terms.specs.declared.outcome.Outcome.{Outcome}
 use Rattle.terms.specs.Few.{few_list}
-use Rattle.terms.specs.Kinds.{kind_number}
+use Rattle.terms.specs.Kinds.{kind_number, verdict_kind}
 use Rattle.terms.specs.Times.{time_at, site_of}
 use Rattle.book.specs.Meaning.{gives, ModesKnown, written_lines}
 use Rattle.records.specs.declared.message.Message.{Message}
@@ -23,7 +23,7 @@ use Rattle.delivering.specs.declared.effect.Effect.TheVariants.{Nothing, Lands, 
 use Rattle.delivering.specs.Delivery.{raised}
 use Rattle.delivering.specs.Effects.{landing, recording, replies}
 use Rattle.delivering.specs.Marks.{transaction_marked}
-use Rattle.settling.specs.Settling.{due, verdict_kind, verdict_messages}
+use Rattle.settling.specs.Settling.{due, verdict_messages}
 use Rattle.steps.specs.Numbers.{stopped}
 use Rattle.model.specs.Rules.{Rules}
 use Rattle.model.specs.World.{Change}

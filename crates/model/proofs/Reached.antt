@@ -5,7 +5,7 @@ use Rattle.std.proofs.lemmas.List.{length-set, take_more_set}
 use Rattle.std.proofs.lemmas.List.Sums.{fold_push}
 use Rattle.std.proofs.lemmas.Bool.{cond-false, cond_both, ltb-true}
 use Rattle.terms.specs.declared.outcome.Outcome.{Outcome}
-use Rattle.terms.specs.Faults.{Refusal}
+use Rattle.terms.specs.declared.fault.Refusal.{Refusal}
 use Rattle.terms.specs.Lists.{In}
 use Rattle.terms.specs.Times.{site_of}
 use Rattle.records.specs.declared.message.Message.{Message}

@@ -2,7 +2,7 @@
 use Rattle.std.proofs.Common.{◌≡◌, ℕ, Bool, true, false, cond, ◌&&◌, ◌||◌, ltb, leb, List, length, Some, None, Ok, Err, Option, Result, sym, refl, ap, ◌∙◌, arith}
 use Rattle.std.specs.List.{slice_get}
 use Rattle.terms.specs.declared.kind.Kind.{Kind}
-use Rattle.terms.specs.Faults.{Refusal}
+use Rattle.terms.specs.declared.fault.Refusal.{Refusal}
 use Rattle.terms.specs.Kinds.{kind_of}
 use Rattle.terms.specs.declared.outcome.Outcome.{Outcome}
 use Rattle.records.specs.declared.message.Message.{Message}

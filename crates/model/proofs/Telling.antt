@@ -4,7 +4,7 @@ use Rattle.std.specs.List.{range_with_len}
 use Rattle.std.proofs.lemmas.Bool.{false≢true, or_cases, or_left, or_right}
 use Rattle.terms.specs.declared.outcome.Outcome.{Outcome}
 use Rattle.terms.specs.Few.{few_list}
-use Rattle.terms.specs.Kinds.{kind_number}
+use Rattle.terms.specs.Kinds.{kind_number, verdict_kind}
 use Rattle.terms.specs.Lists.{In}
 use Rattle.terms.specs.Times.{site_of}
 use Rattle.records.specs.declared.card.Card.{Card}
@@ -14,7 +14,7 @@ use Rattle.records.specs.declared.size.Size.{Size}
 use Rattle.records.specs.declared.transaction.Transaction.{Transaction}
 use Rattle.records.specs.Present.{card_at}
 use Rattle.site.specs.Lines.{lines_of, goes_to, is_sent}
-use Rattle.settling.specs.Settling.{verdict_kind, repeating, told_sites}
+use Rattle.settling.specs.Settling.{repeating, told_sites}
 use Rattle.model.specs.Rules.{Rules}
 use Rattle.model.proofs.State.{State, knows_at, told}
 use Rattle.model.proofs.Lots.{Lot, lots_of, Goes, card_in, message}

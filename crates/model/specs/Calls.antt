@@ -2,7 +2,7 @@
 use Rattle.std.specs.Prelude.{ℕ, ◌+◌, ◌-◌, Bool, cond, not, ◌&&◌, ◌||◌, List, [], ◌∷◌, map, length, replicate, is_some, Some, None, Ok, Err, Option, Result, ◌==◌, nat_le, nat_lt, slice_set}
 use Rattle.std.specs.List.{slice_get, remove, range_with_len}
 use Rattle.terms.specs.declared.outcome.Outcome.{Outcome}
-use Rattle.terms.specs.Faults.{Refusal}
+use Rattle.terms.specs.declared.fault.Refusal.{Refusal}
 use Rattle.terms.specs.Lists.{none}
 use Rattle.terms.specs.Times.{site_of}
 use Rattle.records.specs.declared.card.Card.{Card}

@@ -2,7 +2,7 @@
 use Rattle.std.specs.Prelude.{◌≡◌, ℕ, ◌+◌, ◌*◌, ◌≤◌, true, List, [], ◌∷◌, map, length, Some, None, Ok, Option, ◌≢◌}
 use Rattle.std.specs.List.{slice_get}
 use Rattle.terms.specs.declared.outcome.Outcome.{Outcome}
-use Rattle.terms.specs.Faults.{Refusal}
+use Rattle.terms.specs.declared.fault.Refusal.{Refusal}
 use Rattle.terms.specs.Lists.{In}
 use Rattle.book.specs.Meaning.{gives}
 use Rattle.records.specs.declared.card.Card.{Card}

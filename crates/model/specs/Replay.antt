@@ -1,6 +1,6 @@
 -- Replay: the committed transactions of a sitting run again by rising time. Assumes nothing.
 use Rattle.std.specs.Prelude.{ℕ, ◌+◌, Bool, cond, ◌&&◌, ◌||◌, List, [], ◌∷◌, map, length, Some, None, Ok, Err, fold, filter, Option, Result, nat_lt}
-use Rattle.terms.specs.Faults.{Refusal}
+use Rattle.terms.specs.declared.fault.Refusal.{Refusal}
 use Rattle.terms.specs.Few.{few_list}
 use Rattle.terms.specs.Times.{site_of}
 use Rattle.book.specs.Meaning.{Answer, declines, gives}

@@ -1,7 +1,7 @@
 -- Runs of a sitting: lists of calls with their answers, from a world just opened. Assumes nothing.
 use Rattle.std.specs.Prelude.{◌≡◌, ℕ, ◌≤◌, true, false, List, [], ◌∷◌, ◌++◌, replicate, Ok, Err, Result}
 use Rattle.terms.specs.declared.outcome.Outcome.{Outcome}
-use Rattle.terms.specs.Faults.{Refusal}
+use Rattle.terms.specs.declared.fault.Refusal.{Refusal}
 use Rattle.terms.specs.Few.{few_list}
 use Rattle.book.specs.Meaning.{Answer, declines, gives}
 use Rattle.records.specs.declared.card.Card.{Card}

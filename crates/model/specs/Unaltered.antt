@@ -1,7 +1,7 @@
 -- What a refusal leaves: the world as it was; a foreign message is gone, and a replay that the book declines leaves the
 -- values reached. Assumes nothing.
 use Rattle.std.specs.Prelude.{◌≡◌, ℕ, List, Err, ◌≢◌}
-use Rattle.terms.specs.Faults.{Refusal}
+use Rattle.terms.specs.declared.fault.Refusal.{Refusal}
 use Rattle.records.specs.declared.card.Card.{Card}
 use Rattle.starting.specs.declared.start.Order.{Order}
 use Rattle.model.specs.Rules.{Rules}

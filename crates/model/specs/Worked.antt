@@ -2,7 +2,7 @@
 use Rattle.std.specs.Prelude.{ℕ, ◌+◌, cond, List, [], ◌∷◌, ◌++◌, replicate, Some, None, Ok, Err, fold, Option, Result, ◌==◌, slice_index}
 use Rattle.terms.specs.declared.few.Few.TheVariants.{Nothing, One}
 use Rattle.terms.specs.declared.outcome.Outcome.TheVariants.{Commit}
-use Rattle.terms.specs.Faults.{Refusal}
+use Rattle.terms.specs.declared.fault.Refusal.{Refusal}
 use Rattle.terms.specs.Outcomes.{outcome_number}
 use Rattle.book.specs.Meaning.{gives}
 use Rattle.records.specs.declared.card.Card.{Card}

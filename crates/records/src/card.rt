@@ -1,13 +1,13 @@
 // A shared card: its opening value, the sites that hold a replica, and the primary among them.
-ghost use Rattle.std.specs.Prelude.{◌≡◌, ◌^◌, Some, nat_lt};
-ghost use Rattle.records.specs.Present.{holds, card_present, if_present, card_at};
+ghost use Rattle.std.specs.Prelude.{◌≡◌, ◌^◌, nat_lt};
+ghost use Rattle.records.specs.Present.{holds, card_present, card_at};
 
 use crate::size::Size;
 
-#[derive(Clone, Copy)]
+#[derive(Clone, Copy, Debug, PartialEq, Eq)]
 pub struct Card<V> {
     pub opening: V,
-    // bit s is site s
+    // bit s is site s; a plain number, since a damaged record may have any
     pub holders: u32,
     pub primary: u32,
 }
@@ -33,26 +33,21 @@ impl<V: Copy> Card<V> {
     {
         0 < self.holders && within(self.holders, size.sites) && names(self.holders, self.primary)
     }
-
-    fn if_present(&self, size: Size) -> Option<Card<V>>
-        ensures { result ≡ if_present size (Some self.now) }
-    {
-        if self.present(size) {
-            Some(*self)
-        } else {
-            None
-        }
-    }
 }
 
-// The declared card with this number, if there is one and its record is in range.
-pub fn find<V: Copy>(cards: &[Card<V>], size: Size, number: u32) -> Option<Card<V>>
-    ensures { result ≡ card_at size cards.now number }
-{
-    let place = number as usize;
-    if place < cards.len() {
-        cards[place].if_present(size)
-    } else {
-        None
+// The declared cards of a sitting of some size.
+#[derive(Clone, Copy)]
+pub struct CardTable<'a, V> {
+    pub size: Size,
+    pub cards: &'a [Card<V>],
+}
+
+impl<'a, V: Copy> CardTable<'a, V> {
+    // The declared card with this number, if there is one and its record is in range.
+    pub fn find(&self, number: u32) -> Option<Card<V>>
+        ensures { result ≡ card_at self.now.size self.now.cards.now number }
+    {
+        let card = self.cards.get(number as usize)?;
+        card.present(self.size).then_some(*card)
     }
 }

@@ -2,12 +2,10 @@
 ghost use Rattle.std.specs.Prelude.{◌≡◌};
 ghost use Rattle.records.specs.Present.{line_present};
 
-use crate::card;
-use crate::card::Card;
-use crate::size::Size;
+use crate::card::CardTable;
 use terms::mode::Mode;
 
-#[derive(Clone, Copy)]
+#[derive(Clone, Copy, Debug, PartialEq, Eq)]
 pub struct Line<V> {
     pub time: u32,
     // from 1 to 4 in its transaction
@@ -22,14 +20,13 @@ pub struct Line<V> {
 
 impl<V: Copy> Line<V> {
     // Whether the record is in range; otherwise it counts as absent.
-    pub fn present(&self, size: Size, cards: &[Card<V>]) -> bool
-        ensures { result ≡ line_present size cards.now self.now }
+    pub fn present(&self, table: &CardTable<'_, V>) -> bool
+        ensures { result ≡ line_present table.now.size table.now.cards.now self.now }
     {
-        size.has_time(self.time)
-            && 1 <= self.number
-            && self.number <= 4
-            && card::find(cards, size, self.card).is_some()
-            && Mode::of(self.mode).is_some()
+        table.size.has_time(self.time)
+            && (1..=4).contains(&self.number)
+            && table.find(self.card).is_some()
+            && Mode::try_from(self.mode).is_ok()
             && self.read <= self.time
     }
 }

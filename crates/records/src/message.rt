@@ -2,7 +2,7 @@
 // stray one may have any.
 use crate::line::Line;
 
-#[derive(Clone, Copy)]
+#[derive(Clone, Copy, Debug, PartialEq, Eq)]
 pub struct Message<V> {
     pub kind: u32,
     pub from: u32,

@@ -4,7 +4,7 @@ ghost use Rattle.records.specs.Present.{time_in_range};
 
 use terms::time::VirtualTime;
 
-#[derive(Clone, Copy)]
+#[derive(Clone, Copy, Debug, PartialEq, Eq)]
 pub struct Size {
     pub sites: u32,
     pub transactions: u32,
@@ -15,7 +15,7 @@ impl Size {
     pub fn has_time(self, time: u32) -> bool
         ensures { result ≡ time_in_range self time }
     {
-        let parts = VirtualTime::of(time);
+        let parts = VirtualTime::from(time);
         0 < parts.counter && parts.counter <= self.transactions && parts.site < self.sites
     }
 }

@@ -5,7 +5,7 @@ ghost use Rattle.records.specs.Present.{verdict_present};
 use crate::size::Size;
 use terms::outcome::Outcome;
 
-#[derive(Clone, Copy)]
+#[derive(Clone, Copy, Debug, PartialEq, Eq)]
 pub struct Verdict {
     pub time: u32,
     pub outcome: Outcome,

@@ -1,5 +1,5 @@
 -- No piece is left exactly if there are no more bytes to cut. Assumes nothing.
-use Rattle.std.proofs.Common.{◌≡◌, ℕ, Bool, false, not, eqb, List, [], ◌∷◌, is_some, Some, None, Option, refl, Bor}
+use Rattle.std.proofs.Common.{◌≡◌, ℕ, false, not, eqb, List, [], ◌∷◌, is_some, Some, None, Option, refl, Bor}
 use Rattle.std.proofs.lemmas.Bool.{cond_both}
 use Rattle.script.specs.Pieces.{pieces_on, empty}
 use Rattle.script.specs.Readers.{pieces_in}

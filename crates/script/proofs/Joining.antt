@@ -1,8 +1,12 @@
 -- Bytes cut into pieces, and pieces put together again. Assumes nothing.
-use Rattle.std.proofs.Common.{◌≡◌, ℕ, eqb, List, [], ◌∷◌, ◌++◌, sym, refl, ap, ◌∙◌, subst, ⊎_elim, append_assoc, append-nil}
-use Rattle.std.specs.List.{AllByRecursion}
+use Rattle.std.proofs.Common.{◌≡◌, ℕ, ◌+◌, true, false, not, cond, eqb, List, [], ◌∷◌, ◌++◌, length, take, drop, Option, sym, refl, ap, ◌∙◌, subst, ⊎_elim, arith, append_assoc, append-nil}
+use Rattle.std.specs.List.{AllByRecursion, position, position_or_len}
 use Rattle.std.proofs.lemmas.Bool.{cases_eq, cond-true, cond-false, eq-eqb, ne_eqb}
-use Rattle.script.specs.Pieces.{pieces, pieces_on, joined, Lacks, Cut}
+use Rattle.std.proofs.lemmas.List.Sums.{prefix_len-le-length}
+use Rattle.std.specs.Option.{unwrap_or}
+use Rattle.std.proofs.Math.Numerals.{one-add}
+use Rattle.std.proofs.lemmas.Bool.Decides.{nat_tests}
+use Rattle.script.specs.Pieces.{pieces, pieces_on, pieces_past, joined, Lacks, Cut}
 
 module _ (s : ℕ) where
   -- a separator before each piece
@@ -63,3 +67,18 @@ module _ (s : ℕ) where
   pieces_joined p [] l ls = ap (pieces s) (sym (append-nil p)) ∙ past_lacking [] p [] l
   pieces_joined p (q ∷ ps) l ls =
       past_lacking [] p (s ∷ joined s (q ∷ ps)) l ∙ on_separator p s (joined s (q ∷ ps)) refl ∙ ap (λ x. p ∷ x) (pieces_joined q ps ls.0 ls.1)
+
+  cut_on : (begun bs : List ℕ) → let n = position_or_len (λ b. eqb b s) bs in pieces_on s begun bs ≡ (begun ++ take n bs) ∷ pieces_past s (drop n bs)
+  cut_on begun [] = ap (λ p. p ∷ []) (sym (append-nil begun))
+  cut_on begun (b ∷ bs) =
+      let n = position_or_len (λ b. eqb b s) bs in
+      elim (eqb b s) as (λ t. cond t (begun ∷ pieces s bs) (pieces_on s (begun ++ b ∷ []) bs) ≡ (begun ++ take (cond (not t) (1 + n) 0) (b ∷ bs)) ∷ pieces_past s (drop (cond (not t) (1 + n) 0) (b ∷ bs))) [
+        | true ↦ ap (λ p. p ∷ pieces s bs) (sym (append-nil begun))
+        | false ↦ rw one-add (cut_on (begun ++ b ∷ []) bs ∙ ap (λ p. p ∷ pieces_past s (drop n bs)) (append_assoc begun (b ∷ []) (take n bs)))
+      ]
+
+  -- the first piece ends at the first separator, or else with the bytes
+  pub cut_first : (bs : List ℕ) (first : Option ℕ) (n : ℕ) → first ≡ position (λ b. eqb b s) bs → n ≡ unwrap_or first (length bs) → pieces s bs ≡ take n bs ∷ pieces_past s (drop n bs)
+  cut_first bs first n is end =
+      let within = prefix_len-le-length (λ b. not (eqb b s)) bs in
+      let e : n ≡ position_or_len (λ b. eqb b s) bs = grind (arith, nat_tests) in rw e (cut_on [] bs)

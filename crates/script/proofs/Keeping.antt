@@ -1,7 +1,8 @@
 -- One byte more of a line of which the first bytes are kept. Assumes nothing.
-use Rattle.std.proofs.Common.{◌≡◌, ℕ, ◌<◌, ◌≤◌, true, false, cond, eqb, leb, List, [], ◌∷◌, ◌++◌, length, sym, ap, ◌∙◌, ⊎_elim, arith}
-use Rattle.std.proofs.lemmas.List.{take_all, take-take, take-append-le, length-take}
-use Rattle.std.proofs.lemmas.Bool.{cases_lt, cond-false, lt-leb}
+use Rattle.std.proofs.Common.{◌≡◌, ℕ, ◌<◌, ◌≤◌, true, false, cond, eqb, leb, List, [], ◌∷◌, ◌++◌, length, sym, refl, ap, ◌∙◌, ◌⊎◌, ⊎_elim, arith}
+use Rattle.std.proofs.lemmas.List.{take_all, take-take, take-append-le, length-take, length_push}
+use Rattle.std.proofs.lemmas.Bool.{cases_lt, cond-false, ne_eqb, lt-leb}
+use Rattle.std.proofs.lemmas.Bool.Decides.{nat_tests}
 use Rattle.script.specs.Forms.{Form, line_parsed}
 use Rattle.script.specs.Gathering.{kept, pushed}
 
@@ -22,6 +23,17 @@ kept_pushed line byte =
 -- what was kept decides what is kept of the line with one more byte
 pub kept_since : (before after : List ℕ) (byte : ℕ) → after ≡ kept (pushed before byte) → (line : List ℕ) → before ≡ kept line → after ≡ kept (pushed line byte)
 kept_since before after byte e line is = e ∙ ap (λ l. kept (pushed l byte)) is ∙ kept_pushed line byte
+
+-- a newline, and a byte that finds no room, change nothing that is kept
+pub kept_stays : (line : List ℕ) (byte : ℕ) → length line ≤ 81 → (byte ≡ 10) ⊎ (81 ≤ length line) → line ≡ kept (pushed line byte)
+kept_stays line byte within why =
+    elim (eqb byte 10) as (λ t. eqb byte 10 ≡ t → line ≡ kept (cond t line (line ++ byte ∷ [])))
+    [ true ↦ λ e. sym (take_all 81 line within) | false ↦ λ e. sym (take-append-le 81 line (byte ∷ []) (grind (arith, nat_tests)) ∙ take_all 81 line within) ] refl
+
+-- any other byte is added where there is room
+pub kept_added : (line : List ℕ) (byte : ℕ) → length line < 81 → (byte ≡ 10 → ⊥) → line ++ byte ∷ [] ≡ kept (pushed line byte)
+kept_added line byte room ne =
+    sym (ap kept (cond-false (eqb byte 10) line _ (ne_eqb byte 10 ne)) ∙ take_all 81 _ (omega (arith, length_push line byte)))
 
 -- what was kept of a line has the form of the line
 pub parsed_kept : {X : Type 0} (form : Form X) (line : List ℕ) → line_parsed form (kept line) ≡ line_parsed form line

@@ -1,29 +1,16 @@
 -- A number or a date that was written in digits is read again. Assumes nothing.
-use Rattle.std.proofs.Common.{◌≡◌, ℕ, ◌^◌, ◌<◌, ◌≤◌, true, ltb, List, [], ◌∷◌, ◌++◌, Some, decimal, refl, ap, ◌∙◌, arith}
+use Rattle.std.proofs.Common.{◌≡◌, ℕ, ◌^◌, ◌<◌, ◌≤◌, true, ltb, List, [], ◌∷◌, ◌++◌, Some, decimal, ap, ◌∙◌, arith}
 use Rattle.std.specs.Result.{result_ok}
 use Rattle.std.proofs.lemmas.Fmt.{digits_decimal, digits_value-decimal, decimal_nonempty}
-use Rattle.std.proofs.lemmas.Str.Parse.{IsNumeralModel, IsDigitsTest, FoldsDigits, numerals_by_fold}
 use Rattle.std.proofs.lemmas.Bool.{cond-true, lt-ltb}
 use Rattle.std.proofs.lemmas.Bool.Decides.{nat_tests}
 use Rattle.books.specs.declared.date.Date.{Date}
 use Rattle.script.specs.Dates.{date_form, date_text, date_written, DateFits}
 use Rattle.script.specs.Forms.{read, parsed}
-use Rattle.script.specs.Numbers.{all_digits, value_on, numeral, below}
+use Rattle.script.specs.Numbers.{all_digits, numeral, below}
 use Rattle.script.specs.Pieces.{Lacks}
+use Rattle.script.proofs.Numerals.{own, digits_told}
 use Rattle.script.proofs.Joining.{pieces_joined}
-
-digits_told : IsDigitsTest (λ ds. all_digits ds ≡ true)
-digits_told = record {
-  empty = refl;
-  parts = λ c cs e. grind (arith, nat_tests);
-  more = λ c cs k e. grind (arith, nat_tests);
-}
-
-folded : FoldsDigits value_on
-folded = record { empty = λ n. refl; more = λ n c cs k. refl }
-
-own : IsNumeralModel (λ ds. all_digits ds ≡ true) (value_on 0)
-own = numerals_by_fold _ digits_told value_on folded
 
 pub numeral_decimal : (n : ℕ) → n < 2 ^ 32 → numeral (decimal n) ≡ Some n
 numeral_decimal n h =

@@ -3,7 +3,7 @@ use Rattle.std.specs.Prelude.{ℕ, cond, List, [], ◌∷◌, ◌++◌, take, �
 use Rattle.script.specs.declared.gather.Gather.{Gather}
 
 abbrev pub gathered : Gather → List ℕ
-gathered g = take g.len g.bytes
+gathered g = g.bytes.items
 
 -- Of a line the first 81 bytes are kept, which tell a line above 80 bytes from any other.
 abbrev pub kept : List ℕ → List ℕ

@@ -4,7 +4,7 @@ use Rattle.std.specs.Borrow.{Bor}
 use Rattle.std.specs.List.{slice_get}
 use Rattle.script.specs.declared.pieces.Piece.{Piece}
 use Rattle.script.specs.declared.pieces.Pieces.{Pieces}
-use Rattle.script.specs.Pieces.{pieces}
+use Rattle.script.specs.Pieces.{pieces, head, others}
 
 abbrev pub pieces_in : ℕ → Option (Bor (List ℕ)) → List (List ℕ)
 pieces_in separator None = []
@@ -41,3 +41,10 @@ abbrev pub Parts : Pieces → Option Piece → Pieces → Type 0
 Parts before handed_out after =
     (bs : List ℕ) → length (pieces before.separator bs) < 2 ^ 32 → Reads before bs
     → Part before.separator bs handed_out × Reads after bs
+
+-- A reader hands out the next piece, which is the part of the bytes at its place.
+pub record Hands (before : Pieces) (handed_out : Option Piece) (after : Pieces) : Type 0 where
+  pub text : text_of handed_out ≡ head (left before)
+  pub rest : left after ≡ others (left before)
+  pub place : Placed (handed before) handed_out (handed after)
+  pub part : Parts before handed_out after

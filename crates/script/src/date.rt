@@ -1,20 +1,23 @@
 // Dates in a text: year, month and day in digits, parted by hyphens.
-ghost use Rattle.std.specs.Prelude.{◌≡◌};
 ghost use Rattle.script.specs.Dates.{date_text};
 
+use crate::field::Field;
 use crate::pieces::Pieces;
 use books::date::Date;
 
-pub fn date(text: &[u8]) -> Option<Date>
-    ensures { result ≡ date_text text.now }
-{
-    let mut parts = Pieces::new(text, b'-');
-    let year = u16::try_from(parts.number()?).ok()?;
-    let month = u8::try_from(parts.number()?).ok()?;
-    let day = u8::try_from(parts.number()?).ok()?;
-    if parts.ended() {
-        Some(Date { year, month, day })
-    } else {
-        None
+impl Field for Date {
+    ghost told = { date_text };
+
+    fn of_text(text: &[u8]) -> Option<Date> {
+        let mut parts = Pieces::new(text, b'-');
+        let numbers = (
+            parts.read::<u32>()?,
+            parts.read::<u32>()?,
+            parts.read::<u32>()?,
+        );
+        if !parts.ended() {
+            return None;
+        }
+        Date::try_from(numbers).ok()
     }
 }

@@ -3,9 +3,10 @@
 
 pub mod arrival;
 mod date;
+pub mod field;
 pub mod gather;
+pub mod line;
 mod number;
+mod outcome;
 pub mod pieces;
-mod readers;
-pub mod spelling;
 mod word;

@@ -1,10 +1,9 @@
-// The word that a line of the arrivals script begins with.
-ghost use Rattle.std.specs.Prelude.{◌≡◌};
+// The word that a line of the arrivals script begins with: one match, which says all words.
 ghost use Rattle.script.specs.Words.{word_of};
 
-use crate::spelling::spells;
+use crate::field::Field;
 
-#[derive(Clone, Copy)]
+#[derive(Clone, Copy, Debug, PartialEq, Eq)]
 pub enum Word {
     Opening,
     Line,
@@ -12,20 +11,16 @@ pub enum Word {
     Value,
 }
 
-impl Word {
-    pub fn of(text: &[u8]) -> Option<Word>
-        ensures { result ≡ word_of text.now }
-    {
-        if spells(text, b"opening") {
-            Some(Word::Opening)
-        } else if spells(text, b"line") {
-            Some(Word::Line)
-        } else if spells(text, b"verdict") {
-            Some(Word::Verdict)
-        } else if spells(text, b"value") {
-            Some(Word::Value)
-        } else {
-            None
+impl Field for Word {
+    ghost told = { word_of };
+
+    fn of_text(text: &[u8]) -> Option<Word> {
+        match text {
+            b"opening" => Some(Word::Opening),
+            b"line" => Some(Word::Line),
+            b"verdict" => Some(Word::Verdict),
+            b"value" => Some(Word::Value),
+            _ => None,
         }
     }
 }

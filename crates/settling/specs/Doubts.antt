@@ -1,5 +1,6 @@
 -- What speaks against a transaction at its origin. Assumes nothing.
-use Rattle.std.specs.Prelude.{ℕ, Bool, true, false, not, ◌&&◌, ◌||◌, List, [], ◌∷◌, ◌==◌}
+use Rattle.std.specs.Prelude.{ℕ, Bool, true, false, not, ◌&&◌, List, ◌==◌}
+use Rattle.std.specs.List.{list_any}
 use Rattle.terms.specs.declared.mark.Mark.{Mark}
 use Rattle.terms.specs.declared.mark.Mark.TheVariants.{Asked, Confirmed, Denied}
 use Rattle.terms.specs.Modes.{reads}
@@ -19,8 +20,7 @@ mark_is Unproved Confirmed = false
 mark_is Unproved Denied = true
 
 abbrev pub any_mark : {V : Type 0} → Doubt → List (Entry V) → Bool
-any_mark doubt [] = false
-any_mark doubt (e ∷ es) = mark_is doubt e.mark || any_mark doubt es
+any_mark doubt es = list_any (λ e. mark_is doubt e.mark) es
 
 -- A time read refutes what read it if it is known as aborted, and leaves it unproved if it is neither 0 nor known as
 -- committed.
@@ -30,5 +30,4 @@ writer_is site Unproved time = not (time == 0) && not (committed site time)
 
 -- Whether a time read by a line of mode 1 or 3 is so.
 abbrev pub any_writer : {V : Type 0} → Site V → Doubt → List (Line V) → Bool
-any_writer site doubt [] = false
-any_writer site doubt (l ∷ ls) = (reads l.mode && writer_is site doubt l.read) || any_writer site doubt ls
+any_writer site doubt ls = list_any (λ l. reads l.mode && writer_is site doubt l.read) ls

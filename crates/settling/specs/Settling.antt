@@ -1,11 +1,9 @@
 -- Settling a transaction at its origin. Assumes nothing.
 use Rattle.std.specs.Prelude.{ℕ, Bool, cond, ◌||◌, List, [], ◌∷◌, map, length, is_some, Some, None, Ok, Err, Option, Result, nat_lt}
-use Rattle.terms.specs.declared.kind.Kind.{Kind}
-use Rattle.terms.specs.declared.kind.Kind.TheVariants as kind
 use Rattle.terms.specs.declared.outcome.Outcome.{Outcome}
 use Rattle.terms.specs.declared.outcome.Outcome.TheVariants.{Commit, Abort}
 use Rattle.terms.specs.Few.{few_list}
-use Rattle.terms.specs.Kinds.{kind_number}
+use Rattle.terms.specs.Kinds.{kind_number, verdict_kind}
 use Rattle.terms.specs.Times.{site_of}
 use Rattle.records.specs.declared.line.Line.{Line}
 use Rattle.records.specs.declared.message.Message.{Message}
@@ -29,10 +27,6 @@ due site modes x = cond (doubted site Refuted modes x) (Some Abort) (cond (doubt
 -- The sites to which the verdict goes: those that were sent a line.
 abbrev pub told_sites : {V : Type 0} → Site V → List ℕ → Transaction V → List ℕ
 told_sites site modes x = sent_sites site.size site.cards (site_of x.time) (lines_of modes x)
-
-abbrev pub verdict_kind : Outcome → Kind
-verdict_kind Commit = kind.Commit
-verdict_kind Abort = kind.Abort
 
 abbrev pub repeating : {V : Type 0} → ℕ → ℕ → List (Line V) → List ℕ → List (Message V)
 repeating kind from [] sites = []

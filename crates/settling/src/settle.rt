@@ -1,33 +1,38 @@
-// Settling one of the site's own transactions.
+// Settling one of the site's own transactions. What the site knows and the transaction stay two parameters: the one is
+// asked about the other.
 ghost use Rattle.std.specs.Prelude.{◌≡◌, length, is_some};
 ghost use Rattle.book.specs.Meaning.{modes_in};
 ghost use Rattle.knowledge.specs.Knowledge.{seen, known};
 ghost use Rattle.settling.specs.Settling.{doubted, due, told_sites, settlement};
 
 use crate::doubt::{Doubt, any_mark, any_writer};
+use crate::tell::told_mask;
 use carrier::sending::target_count;
 use knowledge::view::View;
-use records::transaction::Transaction;
 use site::fault::SiteFault;
-use site::lines::sent_mask;
-use terms::few::Few;
-use terms::mode::Mode;
+use site::lines::Ruled;
 use terms::outcome::Outcome;
-use terms::time::VirtualTime;
 
-fn doubted<V: Copy>(view: &View<'_, V>, doubt: Doubt, x: &Transaction<V>, modes: Few<Mode>) -> bool
-    ensures { result ≡ doubted (seen view.now) doubt (modes_in modes) x.now }
+// Whether a record is free for a verdict, and how many places the carrier has.
+#[derive(Clone, Copy, Debug, PartialEq, Eq)]
+pub struct Room {
+    pub verdict: bool,
+    pub places: usize,
+}
+
+fn doubted<V: Copy>(view: &View<'_, V>, doubt: Doubt, x: &Ruled<V>) -> bool
+    ensures { result ≡ doubted (seen view.now) doubt (modes_in x.now.modes) x.now.transaction }
 {
-    any_mark(doubt, x.entries) || any_writer(view, doubt, x, modes)
+    any_mark(doubt, x.transaction.entries) || any_writer(view, doubt, x)
 }
 
 // The outcome that is due at the origin, if one is.
-fn outcome_due<V: Copy>(view: &View<'_, V>, x: &Transaction<V>, modes: Few<Mode>) -> Option<Outcome>
-    ensures { result ≡ due (seen view.now) (modes_in modes) x.now }
+fn outcome_due<V: Copy>(view: &View<'_, V>, x: &Ruled<V>) -> Option<Outcome>
+    ensures { result ≡ due (seen view.now) (modes_in x.now.modes) x.now.transaction }
 {
-    if doubted(view, Doubt::Refuted, x, modes) {
+    if doubted(view, Doubt::Refuted, x) {
         Some(Outcome::Abort)
-    } else if !doubted(view, Doubt::Unproved, x, modes) {
+    } else if !doubted(view, Doubt::Unproved, x) {
         Some(Outcome::Commit)
     } else {
         None
@@ -35,46 +40,31 @@ fn outcome_due<V: Copy>(view: &View<'_, V>, x: &Transaction<V>, modes: Few<Mode>
 }
 
 // How many messages a verdict of the transaction takes.
-fn told_count<V: Copy>(view: &View<'_, V>, x: &Transaction<V>, modes: Few<Mode>) -> usize
-    ensures { result ≡ length (told_sites (seen view.now) (modes_in modes) x.now) }
+fn told_count<V: Copy>(view: &View<'_, V>, x: &Ruled<V>) -> usize
+    ensures { result ≡ length (told_sites (seen view.now) (modes_in x.now.modes) x.now.transaction) }
 {
-    target_count(sent_mask(
-        view.size,
-        view.cards,
-        VirtualTime::of(x.time).site,
-        x,
-        modes,
-    ))
+    target_count(told_mask(view, x))
 }
 
 // Whether a verdict of the transaction is known.
-fn is_settled<V: Copy>(view: &View<'_, V>, x: &Transaction<V>) -> bool
-    ensures { result ≡ is_some (known (seen view.now) x.now.time) }
+fn is_settled<V: Copy>(view: &View<'_, V>, x: &Ruled<V>) -> bool
+    ensures { result ≡ is_some (known (seen view.now) x.now.transaction.time) }
 {
-    view.known(x.time).is_some()
+    view.known(x.transaction.time).is_some()
 }
 
-// The outcome to which a transaction of this site is settled, or why it cannot be: `free` says whether a verdict record
-// is free, `places` how many places of the carrier are.
-pub fn settle<V: Copy>(
-    view: &View<'_, V>,
-    free: bool,
-    places: usize,
-    x: &Transaction<V>,
-    modes: Few<Mode>,
-) -> Result<Outcome, SiteFault>
-    ensures { result ≡ settlement (seen view.now) free places (modes_in modes) x.now }
+// The outcome to which a transaction of this site is settled, or why it cannot be.
+pub fn settle<V: Copy>(view: &View<'_, V>, room: Room, x: &Ruled<V>) -> Result<Outcome, SiteFault>
+    ensures { result ≡ settlement (seen view.now) room.verdict room.places (modes_in x.now.modes) x.now.transaction }
 {
     if is_settled(view, x) {
         return Err(SiteFault::NotOpen);
     }
-    let Some(outcome) = outcome_due(view, x, modes) else {
-        return Err(SiteFault::Unsettled);
-    };
-    if !free {
+    let outcome = outcome_due(view, x).ok_or(SiteFault::Unsettled)?;
+    if !room.verdict {
         return Err(SiteFault::Unsettled);
     }
-    if places < told_count(view, x, modes) {
+    if room.places < told_count(view, x) {
         return Err(SiteFault::NoPlaces);
     }
     Ok(outcome)

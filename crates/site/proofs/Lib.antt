@@ -1,3 +1,3 @@
 pub mod Named
 pub mod Places
-pub mod Tables
+pub mod Numbered

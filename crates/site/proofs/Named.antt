@@ -6,10 +6,14 @@ use lib.Pow.{pow-lt}
 use Rattle.std.proofs.lemmas.Bool.{cases_order, cases_lt, eq-eqb, ne_eqb, eqb-true}
 use Rattle.std.proofs.lemmas.Bool.Decides.{nat_tests}
 use Rattle.std.specs.List.{range_with_len, AllByRecursion}
-use Rattle.records.specs.Present.{holds}
+use Rattle.std.proofs.Math.Bool.{or_assoc}
+use Rattle.records.specs.declared.card.Card.{Card}
+use Rattle.records.specs.declared.line.Line.{Line}
+use Rattle.records.specs.declared.size.Size.{Size}
+use Rattle.records.specs.Present.{holds, card_at}
 use Rattle.records.proofs.Masks.{past_mask, shifted_out}
 use Rattle.carrier.specs.Sending.{targets}
-use Rattle.site.specs.Lines.{picked}
+use Rattle.site.specs.Lines.{picked, goes_to, is_sent}
 
 odd_or : (x y : ℕ) → bit_or x y % 2 ≡ max (x % 2) (y % 2)
 odd_or x y = omega (arith, or_step x y)
@@ -90,3 +94,11 @@ kept_same p q (x ∷ xs) h = ap (λ b. cond b (x ∷ filter p xs) (filter p xs))
 pub targets_picked : (mask : ℕ) (test : ℕ → Bool) → ((s : ℕ) → s < 8 → holds mask s ≡ test s) → targets mask ≡ picked test
 targets_picked mask test h =
     kept_same (holds mask) test (range_with_len 0 8) (h 0 (omega arith), (h 1 (omega arith), (h 2 (omega arith), (h 3 (omega arith), (h 4 (omega arith), (h 5 (omega arith), (h 6 (omega arith), (h 7 (omega arith), tt))))))))
+
+-- One line more was taken into a mask of the sites that were sent one.
+pub sent_more : {V : Type 0} (size : Size) (cards : List (Card V)) (origin mask more s : ℕ) (l : Line V) (before rest : List (Line V)) (all : Bool) → holds more s ≡ goes_to origin l.mode (card_at size cards l.card) s → before ≡ l ∷ rest → (holds mask s || is_sent size cards origin before s) ≡ all → (holds (bit_or mask more) s || is_sent size cards origin rest s) ≡ all
+sent_more size cards origin mask more s l before rest all to is so_far =
+    ap (λ b. b || is_sent size cards origin rest s) (holds_or mask more s ∙ ap (λ b. holds mask s || b) to)
+    ∙ or_assoc (holds mask s) (goes_to origin l.mode (card_at size cards l.card) s) (is_sent size cards origin rest s)
+    ∙ ap (λ ls. holds mask s || is_sent size cards origin ls s) (sym is)
+    ∙ so_far

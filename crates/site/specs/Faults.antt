@@ -1,6 +1,6 @@
 -- The number, line and code of what a site refuses. Assumes nothing.
 use Rattle.std.specs.Prelude.{ℕ}
-use Rattle.terms.specs.Faults.{Refusal}
+use Rattle.terms.specs.declared.fault.Refusal.{Refusal}
 use Rattle.carrier.specs.declared.fault.CarrierFault.{CarrierFault}
 use Rattle.carrier.specs.declared.fault.CarrierFault.TheVariants.{Full, Empty}
 use Rattle.site.specs.declared.fault.SiteFault.{SiteFault}

@@ -1,5 +1,5 @@
 -- A table of records whose first ones are used. Assumes nothing.
-use Rattle.std.specs.Prelude.{◌≡◌, ℕ, ◌+◌, ◌<◌, ◌≤◌, List, ◌++◌, length, take, drop, Some, None, Option, slice_set}
+use Rattle.std.specs.Prelude.{◌≡◌, ℕ, ◌+◌, ◌<◌, ◌≤◌, List, [], ◌∷◌, ◌++◌, length, take, drop, Some, None, Option, slice_set}
 use Rattle.std.specs.List.{slice_get}
 
 -- The record at a place, if there is one.
@@ -11,6 +11,11 @@ at_place table (Some i) = slice_get table i
 abbrev pub replaced : {X : Type 0} → List X → Option ℕ → X → List X
 replaced table None x = table
 replaced table (Some i) x = slice_set table i x
+
+-- The table with some records written from a place on.
+abbrev pub written : {X : Type 0} → List X → ℕ → List X → List X
+written table at [] = table
+written table at (x ∷ xs) = written (slice_set table at x) (at + 1) xs
 
 -- The used records are those before followed by some more, and what lies past them stays.
 pub record Joined {X : Type 0} (before : List X) (used : ℕ) (more : List X) (now_used : ℕ) (after : List X) : Type 0 where

@@ -5,9 +5,9 @@ ghost use Rattle.site.specs.declared.fault.SiteFault.TheVariants.{Declined};
 
 use book::fault::BookFault;
 use carrier::fault::CarrierFault;
-use terms::fault::Fault;
+use terms::fault::{Fault, Refusal};
 
-#[derive(Clone, Copy)]
+#[derive(Clone, Copy, Debug, PartialEq, Eq)]
 pub enum SiteFault {
     UnknownRule,
     WrongCount,
@@ -50,36 +50,29 @@ impl From<CarrierFault> for SiteFault {
 impl Fault for SiteFault {
     ghost told = { site_told };
 
-    fn number(&self) -> u32 {
-        match self {
-            SiteFault::UnknownRule => 6,
-            SiteFault::WrongCount => 7,
-            SiteFault::NoCard { line: _ } => 8,
-            SiteFault::CardTwice { line: _ } => 9,
-            SiteFault::NotHeld { line: _ } => 10,
-            SiteFault::Declined(_) => 11,
-            SiteFault::NoRecords => 14,
-            SiteFault::NoPlaces => 15,
-            SiteFault::NothingWaits => 16,
-            SiteFault::Foreign => 17,
-            SiteFault::NotOpen => 18,
-            SiteFault::Unsettled => 19,
-        }
-    }
-
-    fn line(&self) -> u32 {
-        match self {
-            SiteFault::NoCard { line }
-            | SiteFault::CardTwice { line }
-            | SiteFault::NotHeld { line } => *line,
-            _ => 0,
-        }
-    }
-
-    fn code(&self) -> u32 {
-        match self {
-            SiteFault::Declined(fault) => fault.code,
-            _ => 0,
+    fn refusal(&self) -> Refusal {
+        match *self {
+            SiteFault::UnknownRule => Refusal::plain(6),
+            SiteFault::WrongCount => Refusal::plain(7),
+            SiteFault::NoCard { line } => Refusal {
+                line,
+                ..Refusal::plain(8)
+            },
+            SiteFault::CardTwice { line } => Refusal {
+                line,
+                ..Refusal::plain(9)
+            },
+            SiteFault::NotHeld { line } => Refusal {
+                line,
+                ..Refusal::plain(10)
+            },
+            SiteFault::Declined(fault) => fault.refusal(),
+            SiteFault::NoRecords => Refusal::plain(14),
+            SiteFault::NoPlaces => Refusal::plain(15),
+            SiteFault::NothingWaits => Refusal::plain(16),
+            SiteFault::Foreign => Refusal::plain(17),
+            SiteFault::NotOpen => Refusal::plain(18),
+            SiteFault::Unsettled => Refusal::plain(19),
         }
     }
 }

@@ -1,4 +1,4 @@
-// To which sites a line goes, as a mask.
+// To which sites a line goes, as a mask, which is what a card holds.
 ghost use Rattle.std.specs.Prelude.{◌≡◌, ℕ, ◌<◌, not, ◌&&◌, Some, ◌==◌};
 ghost use Rattle.records.specs.Present.{holds};
 ghost use Rattle.site.specs.Lines.{goes_to};

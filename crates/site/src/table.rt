@@ -1,7 +1,8 @@
-// A table of records whose first ones are used.
-ghost use Rattle.std.specs.Prelude.{◌≡◌, take};
+// A table of records whose first ones are used. A slice and a number, and no vector: the tables are memory that is handed
+// to each call.
+ghost use Rattle.std.specs.Prelude.{◌≡◌, ◌+◌, ◌≤◌, length, take};
 ghost use Rattle.terms.specs.Few.{few_list};
-ghost use Rattle.site.specs.Tables.{at_place, replaced, Extends};
+ghost use Rattle.site.specs.Tables.{at_place, replaced, written, Extends};
 
 use terms::few::Few;
 
@@ -9,19 +10,10 @@ use terms::few::Few;
 pub fn get<X: Copy>(table: &[X], place: Option<usize>) -> Option<X>
     ensures { result ≡ at_place table.now place }
 {
-    match place {
-        Some(i) => {
-            if i < table.len() {
-                Some(table[i])
-            } else {
-                None
-            }
-        }
-        None => None,
-    }
+    table.get(place?).copied()
 }
 
-// Writes another record at a place, if there is one.
+// Writes another record at a place, if there is one. The library's `get_mut` does not say which element it lends.
 pub fn replace<X: Copy>(table: &mut [X], place: Option<usize>, x: X)
     ensures { table.new ≡ replaced table.old place x }
 {
@@ -36,11 +28,21 @@ pub fn replace<X: Copy>(table: &mut [X], place: Option<usize>, x: X)
 pub fn front<X: Copy>(table: &[X], used: usize) -> &[X]
     ensures { result.now ≡ take used table.now }
 {
-    if used < table.len() {
-        &table[..used]
-    } else {
-        table
-    }
+    table.get(..used).unwrap_or(table)
+}
+
+// Writes some records from a place on, and answers the place behind them. Down the list as its definition goes: a loop
+// would count the place.
+fn write<X: Copy>(table: &mut [X], at: usize, more: Few<X>) -> usize
+    requires { at + length (few_list more) ≤ length table.old }
+    ensures count { result ≡ at + length (few_list more) }
+    ensures did { table.new ≡ written table.old at (few_list more) }
+{
+    let Some((first, others)) = more.split_first() else {
+        return at;
+    };
+    table[at] = first;
+    write(table, at + 1, others)
 }
 
 // Writes up to four records behind the used ones if as many are free, and answers how many are used afterwards.
@@ -50,32 +52,5 @@ pub fn append<X: Copy>(table: &mut [X], used: usize, more: Few<X>) -> usize
     if table.len() < used || table.len() - used < more.len() {
         return used;
     }
-    match more {
-        Few::Nothing => used,
-        Few::One(a) => {
-            table[used] = a;
-            used + 1
-        }
-        Few::Two(a, b) => {
-            table[used] = a;
-            table[used + 1] = b;
-            used + 2
-        }
-        Few::Three(a, b, c) => {
-            let second = used + 1;
-            table[used] = a;
-            table[second] = b;
-            table[second + 1] = c;
-            used + 3
-        }
-        Few::Four(a, b, c, d) => {
-            let second = used + 1;
-            let third = second + 1;
-            table[used] = a;
-            table[second] = b;
-            table[third] = c;
-            table[third + 1] = d;
-            used + 4
-        }
-    }
+    write(table, used, more)
 }

@@ -1,5 +1,5 @@
 -- The transaction that a start makes. Assumes nothing.
-use Rattle.std.specs.Prelude.{ℕ, ◌+◌, Bool, true, false, cond, List, [], ◌∷◌, drop, Some, None, Option, ◌==◌, slice_index_or}
+use Rattle.std.specs.Prelude.{ℕ, ◌+◌, cond, List, [], ◌∷◌, drop, is_some, Some, None, Option, ◌==◌, slice_index_or}
 use Rattle.terms.specs.declared.mark.Mark.{Mark}
 use Rattle.terms.specs.declared.mark.Mark.TheVariants.{Asked, Confirmed, Denied}
 use Rattle.terms.specs.Faults.{among}
@@ -8,25 +8,18 @@ use Rattle.records.specs.declared.card.Card.{Card}
 use Rattle.records.specs.declared.line.Line.{Line}
 use Rattle.records.specs.declared.size.Size.{Size}
 use Rattle.records.specs.declared.transaction.Entry.{Entry}
-use Rattle.records.specs.Present.{card_at, holds}
+use Rattle.records.specs.Present.{card_at}
 use Rattle.knowledge.specs.Check.{denied}
 use Rattle.knowledge.specs.Knowledge.{Site}
 use Rattle.site.specs.declared.fault.SiteFault.{SiteFault}
 use Rattle.site.specs.declared.fault.SiteFault.TheVariants.{NoCard, CardTwice, NotHeld}
+use Rattle.site.specs.Lines.{is_holder}
 use Rattle.starting.specs.Reading.{version_read}
-
-abbrev pub held : {V : Type 0} → Option (Card V) → ℕ → Bool
-held None site = false
-held (Some card) site = holds card.holders site
-
-abbrev pub is_there : {V : Type 0} → Option (Card V) → Bool
-is_there None = false
-is_there (Some card) = true
 
 -- What is wrong with the card of a line at a start: there is none, it was given before, or the site does not hold it.
 abbrev pub card_fault : {V : Type 0} → Size → List (Card V) → ℕ → List ℕ → ℕ → ℕ → Option SiteFault
 card_fault size cards site before line card =
-    cond (is_there (card_at size cards card)) (cond (among card before) (Some (CardTwice line)) (cond (held (card_at size cards card) site) None (Some (NotHeld line)))) (Some (NoCard line))
+    cond (is_some (card_at size cards card)) (cond (among card before) (Some (CardTwice line)) (cond (is_holder (card_at size cards card) site) None (Some (NotHeld line)))) (Some (NoCard line))
 
 abbrev pub or_else : Option SiteFault → Option SiteFault → Option SiteFault
 or_else (Some fault) other = Some fault

@@ -1,9 +1,7 @@
 -- Starting a transaction at its origin. Assumes nothing.
-use Rattle.std.specs.Prelude.{ℕ, ◌+◌, Bool, cond, ◌||◌, List, [], ◌∷◌, map, length, Some, None, Ok, Err, Option, Result, ◌==◌, nat_le, nat_lt}
+use Rattle.std.specs.Prelude.{ℕ, ◌+◌, Bool, cond, ◌||◌, List, [], map, length, Some, None, Ok, Err, Option, Result, ◌==◌, nat_le, nat_lt}
 use Rattle.std.specs.List.{flat_map}
-use Rattle.terms.specs.declared.few.Few.{Few}
-use Rattle.terms.specs.declared.few.Few.TheVariants.{Nothing, One, Two, Three, Four}
-use Rattle.terms.specs.Few.{few_list}
+use Rattle.terms.specs.Few.{few_list, few_of}
 use Rattle.terms.specs.Times.{whole}
 use Rattle.book.specs.Meaning.{Answer, declines, gives}
 use Rattle.records.specs.declared.card.Card.{Card}
@@ -20,14 +18,6 @@ use Rattle.starting.specs.declared.start.Order.{Order}
 use Rattle.starting.specs.declared.start.Room.{Room}
 use Rattle.starting.specs.Drafting.{cards_fault, drafted}
 use Rattle.starting.specs.Reading.{values_read}
-
--- The first four of a list.
-abbrev pub few_of : {T : Type 0} → List T → Few T
-few_of [] = Nothing
-few_of (a ∷ []) = One a
-few_of (a ∷ b ∷ []) = Two a b
-few_of (a ∷ b ∷ c ∷ []) = Three a b c
-few_of (a ∷ b ∷ c ∷ d ∷ rest) = Four a b c d
 
 -- A start takes the time after the site's counter.
 abbrev pub next_time : ℕ → ℕ → Option ℕ

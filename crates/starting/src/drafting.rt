@@ -1,5 +1,5 @@
 // The transaction that a start makes.
-ghost use Rattle.std.specs.Prelude.{◌≡◌};
+ghost use Rattle.std.specs.Prelude.{◌≡◌, ◌+◌, ◌≤◌, length};
 ghost use Rattle.terms.specs.Few.{few_list};
 ghost use Rattle.terms.specs.Modes.{mode_number};
 ghost use Rattle.knowledge.specs.Knowledge.{seen};
@@ -9,51 +9,49 @@ ghost use Rattle.starting.specs.Steps.{modes_of, cards_of};
 use crate::reading::version_read;
 use crate::step::Step;
 use knowledge::view::View;
-use records::card;
 use records::line::Line;
 use records::transaction::Entry;
 use terms::few::Few;
 use terms::mark::Mark;
-use terms::mode;
 
-// The mark of a line at its origin: its own check if it is the card's primary.
-fn mark_first<V: Copy>(view: &View<'_, V>, origin: u32, line: &Line<V>) -> Mark
-    ensures { result ≡ first_mark (seen view.now) origin line.now }
-{
-    match card::find(view.cards, view.size, line.card) {
-        Some(card) if card.primary != origin => Mark::Asked,
-        Some(_) if view.denies(line) => Mark::Denied,
-        Some(_) => Mark::Confirmed,
-        None => Mark::Asked,
-    }
-}
-
-// The origin, the time and the argument of a start.
+// What a site knows, and the origin, the time and the argument of a start there.
 #[derive(Clone, Copy)]
-pub(crate) struct Draft<V> {
+pub(crate) struct Draft<'a, V> {
+    pub view: View<'a, V>,
     pub origin: u32,
     pub time: u32,
     pub argument: V,
 }
 
-impl<V: Copy> Draft<V> {
-    // The line of a step, if these values are still to be written.
-    fn line(&self, view: &View<'_, V>, number: u32, step: Step, written: Few<V>) -> Line<V>
-        ensures { result ≡ drafted_line (seen view.now) self.now.time self.now.argument number (mode_number step.mode) step.card (few_list written) }
+impl<'a, V: Copy> Draft<'a, V> {
+    // The mark of a line at its origin: its own check if it is the card's primary.
+    fn mark(&self, line: &Line<V>) -> Mark
+        ensures { result ≡ first_mark (seen self.now.view) self.now.origin line.now }
     {
-        let mode = step.mode.number();
-        let version = version_read(view, self.argument, step.card);
+        match self.view.table.find(line.card) {
+            Some(card) if card.primary != self.origin => Mark::Asked,
+            Some(_) if self.view.denies(line) => Mark::Denied,
+            Some(_) => Mark::Confirmed,
+            None => Mark::Asked,
+        }
+    }
+
+    // The line of a step, if these values are still to be written.
+    fn line(&self, number: u32, step: Step, written: Few<V>) -> Line<V>
+        ensures { result ≡ drafted_line (seen self.now.view) self.now.time self.now.argument number (mode_number step.mode) step.card (few_list written) }
+    {
+        let version = version_read(&self.view, self.argument, step.card);
         Line {
             time: self.time,
             number,
             card: step.card,
-            mode,
-            read: if mode::does_read(mode) {
+            mode: step.mode.into(),
+            read: if step.mode.reads() {
                 version.time
             } else {
                 self.time
             },
-            value: if mode::does_write(mode) {
+            value: if step.mode.writes() {
                 written.get(0).unwrap_or(self.argument)
             } else {
                 version.value
@@ -61,54 +59,29 @@ impl<V: Copy> Draft<V> {
         }
     }
 
-    fn entry(&self, view: &View<'_, V>, number: u32, step: Step, written: Few<V>) -> Entry<V>
-        ensures { result ≡ drafted_entry (seen view.now) self.now.origin self.now.time self.now.argument number (mode_number step.mode) step.card (few_list written) }
+    fn entry(&self, number: u32, step: Step, written: Few<V>) -> Entry<V>
+        ensures { result ≡ drafted_entry (seen self.now.view) self.now.origin self.now.time self.now.argument number (mode_number step.mode) step.card (few_list written) }
     {
-        let line = self.line(view, number, step, written);
-        let mark = mark_first(view, self.origin, &line);
+        let line = self.line(number, step, written);
         Entry {
             card: line.card,
             read: line.read,
             value: line.value,
-            mark,
+            mark: self.mark(&line),
         }
     }
 
-    // The entries of the steps, in line order, where these values are to be written.
-    pub fn entries(&self, view: &View<'_, V>, steps: Few<Step>, written: Few<V>) -> Few<Entry<V>>
-        ensures { few_list result ≡ drafted (seen view.now) self.now.origin self.now.time self.now.argument 1 (modes_of steps) (cards_of steps) (few_list written) }
+    // The entries of the steps, in line order from a number on, where these values are to be written. Down the list as its
+    // definition goes, since each step leaves the values to the next.
+    pub fn entries(&self, number: u32, steps: Few<Step>, written: Few<V>) -> Few<Entry<V>>
+        requires { number + length (few_list steps) ≤ 5 }
+        ensures { few_list result ≡ drafted (seen self.now.view) self.now.origin self.now.time self.now.argument number (modes_of steps) (cards_of steps) (few_list written) }
     {
-        match steps {
-            Few::Nothing => Few::Nothing,
-            Few::One(a) => Few::One(self.entry(view, 1, a, written)),
-            Few::Two(a, b) => {
-                let first = self.entry(view, 1, a, written);
-                Few::Two(first, self.entry(view, 2, b, left_by(a, written)))
-            }
-            Few::Three(a, b, c) => {
-                let first = self.entry(view, 1, a, written);
-                let after_first = left_by(a, written);
-                let second = self.entry(view, 2, b, after_first);
-                Few::Three(
-                    first,
-                    second,
-                    self.entry(view, 3, c, left_by(b, after_first)),
-                )
-            }
-            Few::Four(a, b, c, d) => {
-                let first = self.entry(view, 1, a, written);
-                let after_first = left_by(a, written);
-                let second = self.entry(view, 2, b, after_first);
-                let after_second = left_by(b, after_first);
-                let third = self.entry(view, 3, c, after_second);
-                Few::Four(
-                    first,
-                    second,
-                    third,
-                    self.entry(view, 4, d, left_by(c, after_second)),
-                )
-            }
-        }
+        let Some((step, others)) = steps.split_first() else {
+            return Few::Nothing;
+        };
+        let later = self.entries(number + 1, others, left_by(step, written));
+        later.led_by(self.entry(number, step, written))
     }
 }
 
@@ -116,13 +89,8 @@ impl<V: Copy> Draft<V> {
 fn left_by<V: Copy>(step: Step, written: Few<V>) -> Few<V>
     ensures { few_list result ≡ still_to_write (mode_number step.mode) (few_list written) }
 {
-    if !mode::does_write(step.mode.number()) {
-        return written;
-    }
-    match written {
-        Few::Nothing | Few::One(_) => Few::Nothing,
-        Few::Two(_, b) => Few::One(b),
-        Few::Three(_, b, c) => Few::Two(b, c),
-        Few::Four(_, b, c, d) => Few::Three(b, c, d),
+    match written.split_first() {
+        Some((_, others)) if step.mode.writes() => others,
+        _ => written,
     }
 }

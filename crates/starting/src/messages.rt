@@ -1,58 +1,41 @@
 // How many messages a start takes.
-ghost use Rattle.std.specs.Prelude.{◌≡◌, ◌+◌, ◌≤◌, length};
-ghost use Rattle.std.specs.List.{slice_get, flat_map};
-ghost use Rattle.std.specs.Option.{option_to_list};
-ghost use Rattle.book.specs.Meaning.{modes_in};
-ghost use Rattle.site.specs.Lines.{lines_of};
-ghost use Rattle.starting.specs.Starting.{next_time, line_messages, start_messages};
+ghost use Rattle.std.specs.Prelude.{◌≡◌, ◌*◌, ◌≤◌, length};
+ghost use Rattle.std.specs.List.{flat_map};
+ghost use Rattle.terms.specs.Few.{few_list};
+ghost use Rattle.starting.specs.Starting.{next_time, line_messages};
 
 use carrier::sending::target_count;
-use records::card::Card;
-use records::size::Size;
-use records::transaction::Transaction;
-use site::lines::{line_at, target_mask};
+use records::card::CardTable;
+use records::line::Line;
+use site::lines::target_mask;
 use terms::few::Few;
-use terms::mode::Mode;
 use terms::time::VirtualTime;
 
 pub(crate) fn time_after(counter: u32, site: u32) -> Option<u32>
     ensures { result ≡ next_time counter site }
 {
     let counter = counter.checked_add(1)?;
-    VirtualTime { counter, site }.number()
+    u32::try_from(VirtualTime { counter, site }).ok()
 }
 
-// The messages of the line at a place, if there is one.
-fn count_at<V: Copy>(
-    size: Size,
-    cards: &[Card<V>],
-    origin: u32,
-    x: &Transaction<V>,
-    modes: Few<Mode>,
-    place: usize,
-) -> usize
+fn line_count<V: Copy>(table: &CardTable<'_, V>, origin: u32, line: &Line<V>) -> usize
     ensures bound { result ≤ 8 }
-    ensures value { result ≡ length (flat_map (line_messages size cards.now origin) (option_to_list (slice_get (lines_of (modes_in modes) x.now) place))) }
+    ensures value { result ≡ length (line_messages table.now.size table.now.cards.now origin line.now) }
 {
-    match line_at(x, modes, place) {
-        Some(line) => target_count(target_mask(size, cards, origin, &line)),
-        None => 0,
-    }
+    target_count(target_mask(table, origin, line))
 }
 
-// How many messages the lines of a transaction take from their origin.
+// How many messages some lines take from their origin. Down the list as its definition goes: a loop would be no plainer.
 pub(crate) fn message_count<V: Copy>(
-    size: Size,
-    cards: &[Card<V>],
+    table: &CardTable<'_, V>,
     origin: u32,
-    x: &Transaction<V>,
-    modes: Few<Mode>,
+    lines: Few<Line<V>>,
 ) -> usize
-    ensures { result ≡ length (start_messages size cards.now origin (modes_in modes) x.now) }
+    ensures bound { result ≤ 8 * length (few_list lines) }
+    ensures value { result ≡ length (flat_map (line_messages table.now.size table.now.cards.now origin) (few_list lines)) }
 {
-    let first = count_at(size, cards, origin, x, modes, 0);
-    let second = count_at(size, cards, origin, x, modes, 1);
-    let third = count_at(size, cards, origin, x, modes, 2);
-    let fourth = count_at(size, cards, origin, x, modes, 3);
-    first + (second + (third + fourth))
+    let Some((line, others)) = lines.split_first() else {
+        return 0;
+    };
+    line_count(table, origin, &line) + message_count(table, origin, others)
 }

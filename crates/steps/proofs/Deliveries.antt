@@ -1,5 +1,5 @@
 -- What holds of a delivery that is accepted. Assumes nothing.
-use Rattle.std.proofs.Common.{◌≡◌, ℕ, ◌+◌, ◌-◌, ◌<◌, ◌≤◌, true, ◌&&◌, ltb, List, [], ◌++◌, length, take, drop, Some, None, Ok, Err, Option, Result, sym, refl, ap, ◌∙◌, subst, ⊎_elim, arith}
+use Rattle.std.proofs.Common.{◌≡◌, ℕ, ◌+◌, ◌-◌, ◌<◌, ◌≤◌, true, ◌&&◌, ltb, List, [], length, take, drop, Some, None, Ok, Err, Option, Result, sym, refl, ap, ◌∙◌, subst, ⊎_elim, arith}
 use Rattle.std.proofs.lemmas.List.{append-nil}
 use Rattle.std.proofs.lemmas.Bool.{cond_both, ltb-true, ltb-false, cases_lt}
 use Rattle.terms.specs.Kinds.{kind_of}
@@ -9,6 +9,7 @@ use Rattle.records.specs.declared.message.Message.{Message}
 use Rattle.records.specs.declared.transaction.Transaction.{Transaction}
 use Rattle.records.specs.declared.verdict.Verdict.{Verdict}
 use Rattle.knowledge.specs.Knowledge.{Site}
+use Rattle.carrier.specs.Carrying.{Queue, Appended, places_left}
 use Rattle.site.specs.declared.fault.SiteFault.{SiteFault}
 use Rattle.site.specs.Tables.{at_place, Joined, Extends}
 use Rattle.delivering.specs.declared.effect.Effect.{Effect}
@@ -92,11 +93,11 @@ module _ {V : Type 0} (modes : ℕ → List ℕ) (m : Message V) (h : Handed V) 
   decided_by started place o free used found got places = (λ i. if_answerable (places i) m (delivery (site_of h) (room_of h.used h.lines h.verdicts) ((got ∙ (λ j. at_place (used j) (found j))) i) m))
 
   -- The reply to an accepted delivery finds a place.
-  pub reply_places : (waiting : List (Message V)) (limit : ℕ) (e : Effect V) → length waiting ≤ limit → h.places ≡ limit - length waiting → deliver_decided modes m h xs ≡ Ok e → length waiting + length (replies e m) ≤ limit
-  reply_places waiting limit e bound places is = let enough = (accepted e is).places in omega arith
+  pub reply_places : (queue : Queue V) (e : Effect V) → length queue.waiting ≤ queue.limit → h.places ≡ places_left queue → deliver_decided modes m h xs ≡ Ok e → length queue.waiting + length (replies e m) ≤ queue.limit
+  reply_places queue e bound places is = let enough = (accepted e is).places in omega arith
 
-  pub deliver_done : (waiting : List (Message V)) (e : Effect V) (landed recorded counter put delivered : ℕ) (xs_after : List (Transaction V)) (ls_after : List (Line V)) (vs_after : List Verdict) (after : List (Message V)) → deliver_decided modes m h xs ≡ Ok e → xs_after ≡ remarked e (place_of_own modes m h xs) xs → Extends h.lines h.used.lines (landing e m) landed ls_after → Extends h.verdicts h.used.verdicts (recording e m) recorded vs_after → counter ≡ raised h.used.counter m.line.time → after ≡ waiting ++ replies e m → put ≡ stopped h.counts.put (length after - length waiting) → delivered ≡ stopped h.counts.delivered 1 → DeliverDone modes m h xs waiting (record { effect = e; used = record { counter = counter; lines = landed; verdicts = recorded }; counts = record { started = h.counts.started; put = put; delivered = delivered } }) xs_after ls_after vs_after after
-  deliver_done waiting e landed recorded counter put delivered xs_after ls_after vs_after after is marks lands records count queue puts delivers =
+  pub deliver_done : (queue : Queue V) (e : Effect V) (landed recorded counter put delivered : ℕ) (xs_after : List (Transaction V)) (ls_after : List (Line V)) (vs_after : List Verdict) (after : Queue V) → deliver_decided modes m h xs ≡ Ok e → xs_after ≡ remarked e (place_of_own modes m h xs) xs → Extends h.lines h.used.lines (landing e m) landed ls_after → Extends h.verdicts h.used.verdicts (recording e m) recorded vs_after → counter ≡ raised h.used.counter m.line.time → Appended queue (replies e m) after → put ≡ stopped h.counts.put (length after.waiting - length queue.waiting) → delivered ≡ stopped h.counts.delivered 1 → DeliverDone modes m h xs queue (record { effect = e; numbers = record { used = record { counter = counter; lines = landed; verdicts = recorded }; counts = record { started = h.counts.started; put = put; delivered = delivered } } }) xs_after ls_after vs_after after
+  deliver_done queue e landed recorded counter put delivered xs_after ls_after vs_after after is marks lands records count sends puts delivers =
       let free = (accepted e is).records in
       record {
         decided = is;
@@ -106,7 +107,7 @@ module _ {V : Type 0} (modes : ℕ → List ℕ) (m : Message V) (h : Handed V) 
         recorded = records_joined h.used h.lines h.verdicts m e recorded vs_after free records;
         counter = count;
         started = refl;
-        put = puts ∙ ap (stopped h.counts.put) (put_since waiting _ after queue);
+        put = puts ∙ ap (stopped h.counts.put) (put_since queue.waiting _ after.waiting sends.waiting);
         delivered = delivers;
-        queue = queue;
+        sent = sends;
       }

@@ -7,10 +7,10 @@ use Rattle.terms.specs.Few.{few_list}
 use Rattle.terms.specs.Times.{counter_of}
 use Rattle.book.specs.Meaning.{Answer, declines, gives}
 use Rattle.records.specs.declared.line.Line.{Line}
-use Rattle.records.specs.declared.message.Message.{Message}
 use Rattle.records.specs.declared.transaction.Entry.{Entry}
 use Rattle.records.specs.declared.transaction.Transaction.{Transaction}
 use Rattle.knowledge.specs.Knowledge.{Site}
+use Rattle.carrier.specs.Carrying.{Queue, Appended, places_left}
 use Rattle.site.specs.declared.fault.SiteFault.{SiteFault}
 use Rattle.site.specs.Lines.{lines_from}
 use Rattle.site.specs.Tables.{Extends}
@@ -109,11 +109,11 @@ module _ {V : Type 0} (modes : ℕ → List ℕ) (answer : ℕ → V → List V 
   accepted x is = subst Accepting is accepting
 
   -- The messages of an accepted start find places.
-  pub start_places : (waiting : List (Message V)) (limit : ℕ) (x : Transaction V) → length waiting ≤ limit → h.places ≡ limit - length waiting → start_decided modes answer order h xs ≡ Ok x → length waiting + length (start_puts modes answer order h xs x) ≤ limit
-  start_places waiting limit x bound places is = let enough = (accepted x is).fits.places in omega arith
+  pub start_places : (queue : Queue V) (x : Transaction V) → length queue.waiting ≤ queue.limit → h.places ≡ places_left queue → start_decided modes answer order h xs ≡ Ok x → length queue.waiting + length (start_puts modes answer order h xs x) ≤ queue.limit
+  start_places queue x bound places is = let enough = (accepted x is).fits.places in omega arith
 
-  pub start_done : (waiting : List (Message V)) (x : Transaction V) (landed started counter put : ℕ) (xs_after : List (Transaction V)) (ls_after : List (Line V)) (after : List (Message V)) → start_decided modes answer order h xs ≡ Ok x → Extends h.lines h.used.lines (start_landing rule_modes x) landed ls_after → Extends xs h.counts.started (x ∷ []) started xs_after → counter ≡ counter_of x.time → after ≡ waiting ++ start_puts modes answer order h xs x → put ≡ stopped h.counts.put (length after - length waiting) → StartDone modes answer order h xs waiting (record { number = started; transaction = x; used = record { counter = counter; lines = landed; verdicts = h.used.verdicts }; counts = record { started = started; put = put; delivered = h.counts.delivered } }) xs_after ls_after after
-  start_done waiting x landed started counter put xs_after ls_after after is lands notes count queue puts =
+  pub start_done : (queue : Queue V) (x : Transaction V) (landed started counter put : ℕ) (xs_after : List (Transaction V)) (ls_after : List (Line V)) (after : Queue V) → start_decided modes answer order h xs ≡ Ok x → Extends h.lines h.used.lines (start_landing rule_modes x) landed ls_after → Extends xs h.counts.started (x ∷ []) started xs_after → counter ≡ counter_of x.time → Appended queue (start_puts modes answer order h xs x) after → put ≡ stopped h.counts.put (length after.waiting - length queue.waiting) → StartDone modes answer order h xs queue (record { number = started; transaction = x; numbers = record { used = record { counter = counter; lines = landed; verdicts = h.used.verdicts }; counts = record { started = started; put = put; delivered = h.counts.delivered } } }) xs_after ls_after after
+  start_done queue x landed started counter put xs_after ls_after after is lands notes count sends puts =
       let ok = accepted x is in
       let few = landing_short x.time 1 rule_modes (few_list x.entries) in
       let four = four_lines rule_modes x in
@@ -127,7 +127,7 @@ module _ {V : Type 0} (modes : ℕ → List ℕ) (answer : ℕ → V → List V 
         landed = lands.joins (omega arith);
         verdicts = refl;
         counter = count ∙ ok.fits.counter;
-        put = puts ∙ ap (stopped h.counts.put) (put_since waiting _ after queue);
+        put = puts ∙ ap (stopped h.counts.put) (put_since queue.waiting _ after.waiting sends.waiting);
         delivered = refl;
-        queue = queue;
+        sent = sends;
       }

@@ -1,11 +1,12 @@
 -- A whole delivery at its receiver. Assumes nothing.
-use Rattle.std.specs.Prelude.{◌≡◌, ℕ, cond, List, ◌++◌, length, take, Some, Ok, Err, Option, Result, ◌≢◌, nat_lt}
+use Rattle.std.specs.Prelude.{◌≡◌, ℕ, cond, List, length, take, Some, Ok, Err, Option, Result, ◌≢◌, nat_lt}
 use Rattle.std.specs.List.{slice_get}
 use Rattle.terms.specs.Times.{site_of as origin_of}
 use Rattle.records.specs.declared.line.Line.{Line}
 use Rattle.records.specs.declared.message.Message.{Message}
 use Rattle.records.specs.declared.transaction.Transaction.{Transaction}
 use Rattle.records.specs.declared.verdict.Verdict.{Verdict}
+use Rattle.carrier.specs.Carrying.{Queue, Appended}
 use Rattle.site.specs.declared.fault.SiteFault.{SiteFault}
 use Rattle.site.specs.declared.fault.SiteFault.TheVariants.{NoPlaces}
 use Rattle.site.specs.Tables.{at_place, Joined}
@@ -46,26 +47,26 @@ module _ {V : Type 0} (modes : ℕ → List ℕ) (m : Message V) (h : Handed V) 
 
   -- A delivery that is accepted: what is answered, and what the tables and the waiting messages are afterwards. The
   -- table of transactions differs at most at the receiver's own.
-  pub record DeliverDone (waiting : List (Message V)) (a : Delivered V) (transactions_after : List (Transaction V)) (lines_after : List (Line V)) (verdicts_after : List Verdict) (waiting_after : List (Message V)) : Type 0 where
+  pub record DeliverDone (queue : Queue V) (a : Delivered V) (transactions_after : List (Transaction V)) (lines_after : List (Line V)) (verdicts_after : List Verdict) (queue_after : Queue V) : Type 0 where
     pub decided : deliver_decided ≡ Ok a.effect
     pub marked : transactions_after ≡ remarked a.effect place_of_own transactions
     pub others : OthersStay m.to transactions transactions_after
-    pub landed : Joined h.lines h.used.lines (landing a.effect m) a.used.lines lines_after
-    pub recorded : Joined h.verdicts h.used.verdicts (recording a.effect m) a.used.verdicts verdicts_after
-    pub counter : a.used.counter ≡ raised h.used.counter m.line.time
-    pub started : a.counts.started ≡ h.counts.started
-    pub put : a.counts.put ≡ stopped h.counts.put (length (replies a.effect m))
-    pub delivered : a.counts.delivered ≡ stopped h.counts.delivered 1
-    pub queue : waiting_after ≡ waiting ++ replies a.effect m
+    pub landed : Joined h.lines h.used.lines (landing a.effect m) a.numbers.used.lines lines_after
+    pub recorded : Joined h.verdicts h.used.verdicts (recording a.effect m) a.numbers.used.verdicts verdicts_after
+    pub counter : a.numbers.used.counter ≡ raised h.used.counter m.line.time
+    pub started : a.numbers.counts.started ≡ h.counts.started
+    pub put : a.numbers.counts.put ≡ stopped h.counts.put (length (replies a.effect m))
+    pub delivered : a.numbers.counts.delivered ≡ stopped h.counts.delivered 1
+    pub sent : Appended queue (replies a.effect m) queue_after
 
   -- A delivery that is refused changes nothing.
-  pub record DeliverRefused (waiting : List (Message V)) (fault : SiteFault) (transactions_after : List (Transaction V)) (lines_after : List (Line V)) (verdicts_after : List Verdict) (waiting_after : List (Message V)) : Type 0 where
+  pub record DeliverRefused (queue : Queue V) (fault : SiteFault) (transactions_after : List (Transaction V)) (lines_after : List (Line V)) (verdicts_after : List Verdict) (queue_after : Queue V) : Type 0 where
     pub decided : deliver_decided ≡ Err fault
     pub marked : transactions_after ≡ transactions
     pub landed : lines_after ≡ h.lines
     pub recorded : verdicts_after ≡ h.verdicts
-    pub queue : waiting_after ≡ waiting
+    pub kept : queue_after ≡ queue
 
-  abbrev pub Delivers : List (Message V) → Result (Delivered V) SiteFault → List (Transaction V) → List (Line V) → List Verdict → List (Message V) → Type 0
-  Delivers waiting (Ok a) xs ls vs ms = DeliverDone waiting a xs ls vs ms
-  Delivers waiting (Err fault) xs ls vs ms = DeliverRefused waiting fault xs ls vs ms
+  abbrev pub Delivers : Queue V → Result (Delivered V) SiteFault → List (Transaction V) → List (Line V) → List Verdict → Queue V → Type 0
+  Delivers queue (Ok a) xs ls vs after = DeliverDone queue a xs ls vs after
+  Delivers queue (Err fault) xs ls vs after = DeliverRefused queue fault xs ls vs after

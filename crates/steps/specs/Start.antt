@@ -1,9 +1,10 @@
 -- A whole start at its origin. Assumes nothing.
-use Rattle.std.specs.Prelude.{◌≡◌, ℕ, ◌+◌, cond, List, [], ◌∷◌, ◌++◌, length, Ok, Err, Result, nat_lt}
+use Rattle.std.specs.Prelude.{◌≡◌, ℕ, ◌+◌, cond, List, [], ◌∷◌, length, Ok, Err, Result, nat_lt}
 use Rattle.book.specs.Meaning.{Answer}
 use Rattle.records.specs.declared.line.Line.{Line}
 use Rattle.records.specs.declared.message.Message.{Message}
 use Rattle.records.specs.declared.transaction.Transaction.{Transaction}
+use Rattle.carrier.specs.Carrying.{Queue, Appended}
 use Rattle.site.specs.declared.fault.SiteFault.{SiteFault}
 use Rattle.site.specs.declared.fault.SiteFault.TheVariants.{NoRecords}
 use Rattle.site.specs.Tables.{Joined}
@@ -29,24 +30,24 @@ module _ {V : Type 0} (modes : ℕ → List ℕ) (answer : ℕ → V → List V 
   start_puts x = start_messages h.size h.cards order.origin (modes order.rule) x
 
   -- A start that is accepted: what is answered, and what the tables and the waiting messages are afterwards.
-  pub record StartDone (waiting : List (Message V)) (a : Started V) (transactions_after : List (Transaction V)) (lines_after : List (Line V)) (waiting_after : List (Message V)) : Type 0 where
+  pub record StartDone (queue : Queue V) (a : Started V) (transactions_after : List (Transaction V)) (lines_after : List (Line V)) (queue_after : Queue V) : Type 0 where
     pub decided : start_decided ≡ Ok a.transaction
     pub number : a.number ≡ h.counts.started + 1
-    pub noted : Joined transactions h.counts.started (a.transaction ∷ []) a.counts.started transactions_after
-    pub landed : Joined h.lines h.used.lines (start_landing (modes order.rule) a.transaction) a.used.lines lines_after
-    pub verdicts : a.used.verdicts ≡ h.used.verdicts
-    pub counter : a.used.counter ≡ h.used.counter + 1
-    pub put : a.counts.put ≡ stopped h.counts.put (length (start_puts a.transaction))
-    pub delivered : a.counts.delivered ≡ h.counts.delivered
-    pub queue : waiting_after ≡ waiting ++ start_puts a.transaction
+    pub noted : Joined transactions h.counts.started (a.transaction ∷ []) a.numbers.counts.started transactions_after
+    pub landed : Joined h.lines h.used.lines (start_landing (modes order.rule) a.transaction) a.numbers.used.lines lines_after
+    pub verdicts : a.numbers.used.verdicts ≡ h.used.verdicts
+    pub counter : a.numbers.used.counter ≡ h.used.counter + 1
+    pub put : a.numbers.counts.put ≡ stopped h.counts.put (length (start_puts a.transaction))
+    pub delivered : a.numbers.counts.delivered ≡ h.counts.delivered
+    pub sent : Appended queue (start_puts a.transaction) queue_after
 
   -- A start that is refused changes nothing.
-  pub record StartRefused (waiting : List (Message V)) (fault : SiteFault) (transactions_after : List (Transaction V)) (lines_after : List (Line V)) (waiting_after : List (Message V)) : Type 0 where
+  pub record StartRefused (queue : Queue V) (fault : SiteFault) (transactions_after : List (Transaction V)) (lines_after : List (Line V)) (queue_after : Queue V) : Type 0 where
     pub decided : start_decided ≡ Err fault
     pub noted : transactions_after ≡ transactions
     pub landed : lines_after ≡ h.lines
-    pub queue : waiting_after ≡ waiting
+    pub kept : queue_after ≡ queue
 
-  abbrev pub Starts : List (Message V) → Result (Started V) SiteFault → List (Transaction V) → List (Line V) → List (Message V) → Type 0
-  Starts waiting (Ok a) xs ls ms = StartDone waiting a xs ls ms
-  Starts waiting (Err fault) xs ls ms = StartRefused waiting fault xs ls ms
+  abbrev pub Starts : Queue V → Result (Started V) SiteFault → List (Transaction V) → List (Line V) → Queue V → Type 0
+  Starts queue (Ok a) xs ls after = StartDone queue a xs ls after
+  Starts queue (Err fault) xs ls after = StartRefused queue fault xs ls after

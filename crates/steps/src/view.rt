@@ -5,24 +5,21 @@ ghost use Rattle.steps.specs.Handed.{used_site};
 
 use crate::numbers::Used;
 use knowledge::view::View;
-use records::card::Card;
+use records::card::CardTable;
 use records::line::Line;
-use records::size::Size;
 use records::verdict::Verdict;
 use site::table::front;
 
 pub(crate) fn view_of<'a, V: Copy>(
-    size: Size,
-    cards: &'a [Card<V>],
+    table: CardTable<'a, V>,
     lines: &'a [Line<V>],
     verdicts: &'a [Verdict],
     used: Used,
 ) -> View<'a, V>
-    ensures { seen result ≡ used_site size cards.now lines.now verdicts.now used }
+    ensures { seen result ≡ used_site table.entry.size table.entry.cards.now lines.now verdicts.now used }
 {
     View {
-        size,
-        cards,
+        table,
         lines: front(lines, used.lines),
         verdicts: front(verdicts, used.verdicts),
     }

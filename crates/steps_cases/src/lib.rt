@@ -4,10 +4,11 @@
 
 #[cfg(test)]
 mod tests {
+    use book::fault::BookFault;
     use books::tally::Tally;
     use carrier::carrier::Carrier;
     use carriers::tray::Tray;
-    use records::card::Card;
+    use records::card::{Card, CardTable};
     use records::line::Line;
     use records::message::Message;
     use records::size::Size;
@@ -18,10 +19,9 @@ mod tests {
     use std::process::Abort;
     use std::test::Fail;
     use steps::deliver::deliver;
-    use steps::numbers::{Counts, Used};
+    use steps::numbers::{Counts, Numbers, Used};
     use steps::settle::settle;
     use steps::start::start;
-    use terms::fault::Fault;
     use terms::few::Few;
     use terms::mark::Mark;
     use terms::outcome::Outcome;
@@ -37,6 +37,11 @@ mod tests {
         holders: 3,
         primary: 0,
     }];
+
+    const TABLE: CardTable<'static, u32> = CardTable {
+        size: SIZE,
+        cards: &CARDS,
+    };
 
     const NO_LINE: Line<u32> = Line {
         time: 0,
@@ -126,86 +131,80 @@ mod tests {
         counts: Counts,
     }
 
-    // What a call answers: a number, or 1000 and the number of the refusal.
-    fn start_at(all: &mut Shared, at: &mut Board, order: Order<u32>) -> u32 {
-        let answer = start(
+    // What an accepted call answers: a transaction's time, nothing, or an outcome.
+    #[derive(Clone, Copy, Debug, PartialEq, Eq)]
+    enum Answer {
+        Started(u32),
+        Delivered,
+        Settled(Outcome),
+    }
+
+    fn numbers(all: &Shared, at: &Board) -> Numbers {
+        Numbers {
+            used: at.used,
+            counts: all.counts,
+        }
+    }
+
+    fn keep(all: &mut Shared, at: &mut Board, numbers: Numbers) {
+        at.used = numbers.used;
+        all.counts = numbers.counts;
+    }
+
+    fn start_at(all: &mut Shared, at: &mut Board, order: Order<u32>) -> Result<Answer, SiteFault> {
+        let before = numbers(all, at);
+        let started = start(
             &Tally,
             &mut all.tray,
-            SIZE,
-            &CARDS,
+            &TABLE,
             &mut all.transactions,
             &mut at.lines,
             &at.verdicts,
-            at.used,
-            all.counts,
+            before,
             order,
-        );
-        match answer {
-            Ok(a) => {
-                at.used = a.used;
-                all.counts = a.counts;
-                a.transaction.time
-            }
-            Err(fault) => 1000 + fault.number() % 1000,
-        }
+        )?;
+        keep(all, at, started.numbers);
+        Ok(Answer::Started(started.transaction.time))
     }
 
-    fn deliver_to(all: &mut Shared, at: &mut Board, message: Message<u32>) -> u32 {
-        let answer = deliver(
+    fn deliver_to(
+        all: &mut Shared,
+        at: &mut Board,
+        message: Message<u32>,
+    ) -> Result<Answer, SiteFault> {
+        let before = numbers(all, at);
+        let delivered = deliver(
             &Tally,
             &mut all.tray,
-            SIZE,
-            &CARDS,
+            &TABLE,
             &mut all.transactions,
             &mut at.lines,
             &mut at.verdicts,
-            at.used,
-            all.counts,
+            before,
             message,
-        );
-        match answer {
-            Ok(a) => {
-                at.used = a.used;
-                all.counts = a.counts;
-                0
-            }
-            Err(fault) => 1000 + fault.number() % 1000,
-        }
+        )?;
+        keep(all, at, delivered.numbers);
+        Ok(Answer::Delivered)
     }
 
-    fn settle_at(all: &mut Shared, at: &mut Board, number: usize) -> u32 {
-        let x = if number < 4 {
-            all.transactions[number]
-        } else {
-            NO_TRANSACTION
-        };
-        let answer = settle(
+    fn settle_at(all: &mut Shared, at: &mut Board, place: usize) -> Result<Answer, SiteFault> {
+        let before = numbers(all, at);
+        let x = all
+            .transactions
+            .get(place)
+            .copied()
+            .unwrap_or(NO_TRANSACTION);
+        let settled = settle(
             &Tally,
             &mut all.tray,
-            SIZE,
-            &CARDS,
+            &TABLE,
             &at.lines,
             &mut at.verdicts,
-            at.used,
-            all.counts,
+            before,
             x,
-        );
-        match answer {
-            Ok(a) => {
-                at.used = a.used;
-                all.counts = a.counts;
-                a.outcome.number()
-            }
-            Err(fault) => 1000 + fault.number() % 1000,
-        }
-    }
-
-    // The message that the tray takes; one of kind 0 if nothing waits.
-    fn taken(all: &mut Shared, hint: u32) -> Message<u32> {
-        match all.tray.take(hint) {
-            Ok(taken) => taken.message,
-            Err(_) => message(0, 0, 0, NO_LINE),
-        }
+        )?;
+        keep(all, at, settled.numbers);
+        Ok(Answer::Settled(settled.outcome))
     }
 
     fn fresh(rt: HostRuntime, limit: usize) -> Result<Shared, Fail> {
@@ -226,49 +225,61 @@ mod tests {
         Settle(usize),
     }
 
-    fn play(all: &mut Shared, at: &mut Board, call: Call) -> u32 {
+    fn play(all: &mut Shared, at: &mut Board, call: Call) -> Result<Answer, SiteFault> {
         match call {
             Call::Start(site, rule, argument) => start_at(all, at, order(site, rule, argument)),
             Call::Deliver(hint) => {
-                let m = taken(all, hint);
-                deliver_to(all, at, m)
+                let taken = all.tray.take(hint)?;
+                deliver_to(all, at, taken.message)
             }
             Call::Settle(place) => settle_at(all, at, place),
         }
     }
 
-    // A call at a site, what it answers, and afterwards the site's counter, lines and verdicts, the counts of
-    // transactions, messages put and delivered, and the marks of the first two transactions.
-    #[derive(Clone, Copy)]
-    struct Row(u32, Call, u32, [usize; 8]);
+    // The site's counter, lines and verdicts, the counts of transactions, messages put and delivered, and the marks of
+    // the first two transactions.
+    #[derive(Clone, Copy, Debug, PartialEq, Eq)]
+    struct Figures([usize; 6], [Option<Mark>; 2]);
 
-    fn mark(x: Transaction<u32>) -> usize {
+    const NONE: [Option<Mark>; 2] = [None, None];
+
+    const ASKED: [Option<Mark>; 2] = [Some(Mark::Asked), None];
+
+    const CONFIRMED: [Option<Mark>; 2] = [Some(Mark::Confirmed), None];
+
+    const ASKED_CONFIRMED: [Option<Mark>; 2] = [Some(Mark::Asked), Some(Mark::Confirmed)];
+
+    const DENIED_CONFIRMED: [Option<Mark>; 2] = [Some(Mark::Denied), Some(Mark::Confirmed)];
+
+    // A call at a site, what it answers, and the figures afterwards.
+    #[derive(Clone, Copy)]
+    struct Row(u32, Call, Result<Answer, SiteFault>, Figures);
+
+    // The mark of a transaction's only line.
+    fn mark(x: &Transaction<u32>) -> Option<Mark> {
         match x.entries {
-            Few::One(e) => match e.mark {
-                Mark::Asked => 1,
-                Mark::Confirmed => 2,
-                Mark::Denied => 3,
-            },
-            _ => 0,
+            Few::One(e) => Some(e.mark),
+            _ => None,
         }
     }
 
-    fn figures(all: &Shared, at: &Board) -> [usize; 8] {
-        [
-            at.used.counter as usize,
-            at.used.lines,
-            at.used.verdicts,
-            all.counts.started,
-            all.counts.put as usize,
-            all.counts.delivered as usize,
-            mark(all.transactions[0]),
-            mark(all.transactions[1]),
-        ]
+    fn figures_of(all: &Shared, at: &Board) -> Figures {
+        Figures(
+            [
+                at.used.counter as usize,
+                at.used.lines,
+                at.used.verdicts,
+                all.counts.started,
+                all.counts.put as usize,
+                all.counts.delivered as usize,
+            ],
+            [mark(&all.transactions[0]), mark(&all.transactions[1])],
+        )
     }
 
     fn run_row(rt: &impl Abort, all: &mut Shared, at: &mut Board, row: Row) {
         assert_eq!(rt; play(all, at, row.1), row.2);
-        assert_eq!(rt; figures(all, at), row.3);
+        assert_eq!(rt; figures_of(all, at), row.3);
     }
 
     // Site 1 adds 5 and site 0 sets 7 before either hears of the other. The addition is denied, since 8 lies between
@@ -279,18 +290,72 @@ mod tests {
         let mut zero = fresh_board();
         let mut one = fresh_board();
         let rows = [
-            Row(1, Call::Start(1, 2, 5), 9, [1, 1, 0, 1, 1, 0, 1, 0]),
-            Row(0, Call::Start(0, 1, 7), 8, [1, 1, 0, 2, 2, 0, 1, 2]),
-            Row(0, Call::Deliver(0), 0, [1, 1, 0, 2, 3, 1, 1, 2]),
-            Row(0, Call::Settle(1), 1, [1, 1, 1, 2, 4, 1, 1, 2]),
-            Row(0, Call::Settle(1), 1018, [1, 1, 1, 2, 4, 1, 1, 2]),
-            Row(1, Call::Deliver(2), 0, [1, 1, 1, 2, 4, 2, 1, 2]),
-            Row(1, Call::Deliver(0), 0, [1, 2, 1, 2, 4, 3, 1, 2]),
-            Row(1, Call::Settle(0), 1019, [1, 2, 1, 2, 4, 3, 1, 2]),
-            Row(1, Call::Deliver(0), 0, [1, 2, 1, 2, 4, 4, 3, 2]),
-            Row(1, Call::Settle(0), 2, [1, 2, 2, 2, 5, 4, 3, 2]),
-            Row(0, Call::Deliver(0), 0, [1, 1, 2, 2, 5, 5, 3, 2]),
-            Row(0, Call::Deliver(0), 1017, [1, 1, 2, 2, 5, 5, 3, 2]),
+            Row(
+                1,
+                Call::Start(1, 2, 5),
+                Ok(Answer::Started(9)),
+                Figures([1, 1, 0, 1, 1, 0], ASKED),
+            ),
+            Row(
+                0,
+                Call::Start(0, 1, 7),
+                Ok(Answer::Started(8)),
+                Figures([1, 1, 0, 2, 2, 0], ASKED_CONFIRMED),
+            ),
+            Row(
+                0,
+                Call::Deliver(0),
+                Ok(Answer::Delivered),
+                Figures([1, 1, 0, 2, 3, 1], ASKED_CONFIRMED),
+            ),
+            Row(
+                0,
+                Call::Settle(1),
+                Ok(Answer::Settled(Outcome::Commit)),
+                Figures([1, 1, 1, 2, 4, 1], ASKED_CONFIRMED),
+            ),
+            Row(
+                0,
+                Call::Settle(1),
+                Err(SiteFault::NotOpen),
+                Figures([1, 1, 1, 2, 4, 1], ASKED_CONFIRMED),
+            ),
+            Row(
+                1,
+                Call::Deliver(2),
+                Ok(Answer::Delivered),
+                Figures([1, 1, 1, 2, 4, 2], ASKED_CONFIRMED),
+            ),
+            Row(
+                1,
+                Call::Deliver(0),
+                Ok(Answer::Delivered),
+                Figures([1, 2, 1, 2, 4, 3], ASKED_CONFIRMED),
+            ),
+            Row(
+                1,
+                Call::Settle(0),
+                Err(SiteFault::Unsettled),
+                Figures([1, 2, 1, 2, 4, 3], ASKED_CONFIRMED),
+            ),
+            Row(
+                1,
+                Call::Deliver(0),
+                Ok(Answer::Delivered),
+                Figures([1, 2, 1, 2, 4, 4], DENIED_CONFIRMED),
+            ),
+            Row(
+                1,
+                Call::Settle(0),
+                Ok(Answer::Settled(Outcome::Abort)),
+                Figures([1, 2, 2, 2, 5, 4], DENIED_CONFIRMED),
+            ),
+            Row(
+                0,
+                Call::Deliver(0),
+                Ok(Answer::Delivered),
+                Figures([1, 1, 2, 2, 5, 5], DENIED_CONFIRMED),
+            ),
         ];
         for r in rows {
             if r.0 == 0 {
@@ -299,6 +364,20 @@ mod tests {
                 run_row(&rt, &mut all, &mut one, r);
             }
         }
+        // a message of no kind, and none at all
+        let stray = message(0, 0, 0, NO_LINE);
+        let last = Figures([1, 1, 2, 2, 5, 5], DENIED_CONFIRMED);
+        assert_eq!(rt;
+            deliver_to(&mut all, &mut zero, stray),
+            Err(SiteFault::Foreign)
+        );
+        assert_eq!(rt; figures_of(&all, &zero), last);
+        run_row(
+            &rt,
+            &mut all,
+            &mut zero,
+            Row(0, Call::Deliver(0), Err(SiteFault::NothingWaits), last),
+        );
         assert_eq!(rt; all.tray.count(), 0);
         // the lines that stand at site 1: the addition, then the setting
         assert_eq!(rt; one.lines[0].value, 15);
@@ -317,7 +396,12 @@ mod tests {
             &rt,
             &mut all,
             &mut one,
-            Row(1, Call::Start(1, 2, 5), 9, [1, 1, 0, 1, 1, 0, 1, 0]),
+            Row(
+                1,
+                Call::Start(1, 2, 5),
+                Ok(Answer::Started(9)),
+                Figures([1, 1, 0, 1, 1, 0], ASKED),
+            ),
         );
         let strays = [
             // kind, sender, receiver
@@ -336,19 +420,34 @@ mod tests {
             message(2, 0, 1, sent),
         ];
         for stray in strays {
-            assert_eq!(rt; deliver_to(&mut all, &mut one, stray), 1017);
+            assert_eq!(rt;
+                deliver_to(&mut all, &mut one, stray),
+                Err(SiteFault::Foreign)
+            );
         }
-        assert_eq!(rt; figures(&all, &one), [1, 1, 0, 1, 1, 0, 1, 0]);
+        assert_eq!(rt; figures_of(&all, &one), Figures([1, 1, 0, 1, 1, 0], ASKED));
         // an answer marks the line, a second one changes nothing
-        assert_eq!(rt; deliver_to(&mut all, &mut one, message(2, 0, 1, own)), 0);
-        assert_eq!(rt; deliver_to(&mut all, &mut one, message(3, 0, 1, own)), 0);
-        assert_eq!(rt; figures(&all, &one), [1, 1, 0, 1, 1, 2, 2, 0]);
+        assert_eq!(rt;
+            deliver_to(&mut all, &mut one, message(2, 0, 1, own)),
+            Ok(Answer::Delivered)
+        );
+        assert_eq!(rt;
+            deliver_to(&mut all, &mut one, message(3, 0, 1, own)),
+            Ok(Answer::Delivered)
+        );
+        assert_eq!(rt;
+            figures_of(&all, &one),
+            Figures([1, 1, 0, 1, 1, 2], CONFIRMED)
+        );
         // a transaction whose rule the book lacks counts as absent
         all.transactions[0] = Transaction {
             rule: 9,
             ..all.transactions[0]
         };
-        assert_eq!(rt; deliver_to(&mut all, &mut one, message(2, 0, 1, own)), 1017);
+        assert_eq!(rt;
+            deliver_to(&mut all, &mut one, message(2, 0, 1, own)),
+            Err(SiteFault::Foreign)
+        );
         Ok(())
     }
 
@@ -358,39 +457,79 @@ mod tests {
         let mut all = fresh(rt, 1)?;
         let mut zero = fresh_board();
         let rows = [
-            Row(0, Call::Start(0, 9, 7), 1006, [0, 0, 0, 0, 0, 0, 0, 0]),
-            Row(0, Call::Start(0, 3, 7), 1007, [0, 0, 0, 0, 0, 0, 0, 0]),
+            Row(
+                0,
+                Call::Start(0, 9, 7),
+                Err(SiteFault::UnknownRule),
+                Figures([0, 0, 0, 0, 0, 0], NONE),
+            ),
+            Row(
+                0,
+                Call::Start(0, 3, 7),
+                Err(SiteFault::WrongCount),
+                Figures([0, 0, 0, 0, 0, 0], NONE),
+            ),
             Row(
                 0,
                 Call::Start(0, 1, 1_000_000),
-                1011,
-                [0, 0, 0, 0, 0, 0, 0, 0],
+                Err(SiteFault::Declined(BookFault { code: 3 })),
+                Figures([0, 0, 0, 0, 0, 0], NONE),
             ),
-            Row(0, Call::Start(0, 1, 7), 8, [1, 1, 0, 1, 1, 0, 2, 0]),
+            Row(
+                0,
+                Call::Start(0, 1, 7),
+                Ok(Answer::Started(8)),
+                Figures([1, 1, 0, 1, 1, 0], CONFIRMED),
+            ),
             // the tray has one place
-            Row(0, Call::Start(0, 1, 7), 1015, [1, 1, 0, 1, 1, 0, 2, 0]),
-            Row(0, Call::Settle(0), 1015, [1, 1, 0, 1, 1, 0, 2, 0]),
+            Row(
+                0,
+                Call::Start(0, 1, 7),
+                Err(SiteFault::NoPlaces),
+                Figures([1, 1, 0, 1, 1, 0], CONFIRMED),
+            ),
+            Row(
+                0,
+                Call::Settle(0),
+                Err(SiteFault::NoPlaces),
+                Figures([1, 1, 0, 1, 1, 0], CONFIRMED),
+            ),
         ];
         for r in rows {
             run_row(&rt, &mut all, &mut zero, r);
         }
         let far = message(1, 1, 0, line(25, 2, 25, 1));
-        assert_eq!(rt; deliver_to(&mut all, &mut zero, far), 1015);
+        assert_eq!(rt;
+            deliver_to(&mut all, &mut zero, far),
+            Err(SiteFault::NoPlaces)
+        );
         // no record is free for a line, then for a verdict, then for a transaction
         zero.used = Used {
             counter: 1,
             lines: 8,
             verdicts: 4,
         };
-        assert_eq!(rt; deliver_to(&mut all, &mut zero, far), 1017);
-        assert_eq!(rt; settle_at(&mut all, &mut zero, 0), 1019);
-        assert_eq!(rt; start_at(&mut all, &mut zero, order(0, 9, 7)), 1014);
+        assert_eq!(rt;
+            deliver_to(&mut all, &mut zero, far),
+            Err(SiteFault::Foreign)
+        );
+        assert_eq!(rt;
+            settle_at(&mut all, &mut zero, 0),
+            Err(SiteFault::Unsettled)
+        );
+        assert_eq!(rt;
+            start_at(&mut all, &mut zero, order(0, 9, 7)),
+            Err(SiteFault::NoRecords)
+        );
         zero.used = EMPTY;
         all.counts = Counts {
             started: 4,
             ..NOTHING
         };
-        assert_eq!(rt; start_at(&mut all, &mut zero, order(0, 9, 7)), 1014);
+        assert_eq!(rt;
+            start_at(&mut all, &mut zero, order(0, 9, 7)),
+            Err(SiteFault::NoRecords)
+        );
         Ok(())
     }
 
@@ -405,13 +544,16 @@ mod tests {
             delivered: 999_999_999,
         };
         let m = message(1, 1, 0, line(25, 2, 25, 1));
-        assert_eq!(rt; deliver_to(&mut all, &mut zero, m), 0);
-        assert_eq!(rt; deliver_to(&mut all, &mut zero, m), 0);
+        assert_eq!(rt; deliver_to(&mut all, &mut zero, m), Ok(Answer::Delivered));
+        assert_eq!(rt; deliver_to(&mut all, &mut zero, m), Ok(Answer::Delivered));
         assert_eq!(rt;
-            figures(&all, &zero),
-            [3, 2, 0, 0, 1_000_000_000, 1_000_000_000, 0, 0]
+            figures_of(&all, &zero),
+            Figures([3, 2, 0, 0, 1_000_000_000, 1_000_000_000], NONE)
         );
-        assert_eq!(rt; start_at(&mut all, &mut zero, order(0, 1, 7)), 32);
+        assert_eq!(rt;
+            start_at(&mut all, &mut zero, order(0, 1, 7)),
+            Ok(Answer::Started(32))
+        );
         Ok(())
     }
 }

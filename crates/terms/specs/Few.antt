@@ -9,3 +9,11 @@ few_list (One a) = a ∷ []
 few_list (Two a b) = a ∷ b ∷ []
 few_list (Three a b c) = a ∷ b ∷ c ∷ []
 few_list (Four a b c d) = a ∷ b ∷ c ∷ d ∷ []
+
+-- The first four of a list.
+abbrev pub few_of : {T : Type 0} → List T → Few T
+few_of [] = Nothing
+few_of (a ∷ []) = One a
+few_of (a ∷ b ∷ []) = Two a b
+few_of (a ∷ b ∷ c ∷ []) = Three a b c
+few_of (a ∷ b ∷ c ∷ d ∷ rest) = Four a b c d

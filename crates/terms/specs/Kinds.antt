@@ -4,6 +4,8 @@ use Rattle.terms.specs.declared.kind.Kind.{Kind}
 use Rattle.terms.specs.declared.kind.Kind.TheVariants.{Line, Confirm, Deny, Commit, Abort}
 use Rattle.terms.specs.declared.mark.Mark.{Mark}
 use Rattle.terms.specs.declared.mark.Mark.TheVariants.{Asked, Confirmed, Denied}
+use Rattle.terms.specs.declared.outcome.Outcome.{Outcome}
+use Rattle.terms.specs.declared.outcome.Outcome.TheVariants.{Commit as committed, Abort as aborted}
 use Rattle.terms.specs.Numbers.{numbered}
 
 abbrev pub kind_number : Kind → ℕ
@@ -21,3 +23,8 @@ abbrev pub mark_kind : Mark → Kind
 mark_kind Asked = Line
 mark_kind Confirmed = Confirm
 mark_kind Denied = Deny
+
+-- The kind of message that tells an outcome.
+abbrev pub verdict_kind : Outcome → Kind
+verdict_kind committed = Commit
+verdict_kind aborted = Abort

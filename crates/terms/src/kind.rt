@@ -1,8 +1,12 @@
 // The kinds of messages.
 ghost use Rattle.std.specs.Prelude.{◌≡◌};
-ghost use Rattle.terms.specs.Kinds.{kind_number, kind_of};
+ghost use Rattle.terms.specs.Kinds.{kind_number, kind_of, verdict_kind};
+ghost use Rattle.terms.specs.Numbers.{told_or_unknown};
 
-#[derive(Clone, Copy)]
+use crate::number::UnknownNumber;
+use crate::outcome::Outcome;
+
+#[derive(Clone, Copy, Debug, PartialEq, Eq)]
 pub enum Kind {
     Line,
     Confirm,
@@ -11,11 +15,11 @@ pub enum Kind {
     Abort,
 }
 
-impl Kind {
-    pub fn number(self) -> u32
-        ensures { result ≡ kind_number self }
-    {
-        match self {
+impl From<Kind> for u32 {
+    ghost from_gives = { λ kind number. number ≡ kind_number kind };
+
+    fn from(kind: Kind) -> u32 {
+        match kind {
             Kind::Line => 1,
             Kind::Confirm => 2,
             Kind::Deny => 3,
@@ -23,18 +27,33 @@ impl Kind {
             Kind::Abort => 5,
         }
     }
+}
 
-    // The kind with this number, if there is one.
-    pub fn of(number: u32) -> Option<Kind>
-        ensures { result ≡ kind_of number }
-    {
+impl TryFrom<u32> for Kind {
+    type Error = UnknownNumber;
+
+    ghost try_from_gives = { λ number told. told ≡ told_or_unknown (kind_of number) number };
+
+    fn try_from(number: u32) -> Result<Kind, UnknownNumber> {
         match number {
-            1 => Some(Kind::Line),
-            2 => Some(Kind::Confirm),
-            3 => Some(Kind::Deny),
-            4 => Some(Kind::Commit),
-            5 => Some(Kind::Abort),
-            _ => None,
+            1 => Ok(Kind::Line),
+            2 => Ok(Kind::Confirm),
+            3 => Ok(Kind::Deny),
+            4 => Ok(Kind::Commit),
+            5 => Ok(Kind::Abort),
+            _ => Err(UnknownNumber { number }),
+        }
+    }
+}
+
+// The kind of message that tells an outcome.
+impl From<Outcome> for Kind {
+    ghost from_gives = { λ outcome kind. kind ≡ verdict_kind outcome };
+
+    fn from(outcome: Outcome) -> Kind {
+        match outcome {
+            Outcome::Commit => Kind::Commit,
+            Outcome::Abort => Kind::Abort,
         }
     }
 }

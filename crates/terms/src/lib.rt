@@ -7,5 +7,6 @@ pub mod few;
 pub mod kind;
 pub mod mark;
 pub mod mode;
+pub mod number;
 pub mod outcome;
 pub mod time;

@@ -1,48 +1,70 @@
 // The mode of a line: what its transaction does with the card.
 ghost use Rattle.std.specs.Prelude.{◌≡◌};
 ghost use Rattle.terms.specs.Modes.{mode_number, mode_of, reads, writes};
+ghost use Rattle.terms.specs.Numbers.{told_or_unknown};
 
-#[derive(Clone, Copy)]
+use crate::number::UnknownNumber;
+
+#[derive(Clone, Copy, Debug, PartialEq, Eq)]
 pub enum Mode {
     Read,
     Write,
     Update,
 }
 
-impl Mode {
-    pub fn number(self) -> u32
-        ensures { result ≡ mode_number self }
-    {
-        match self {
+impl From<Mode> for u32 {
+    ghost from_gives = { λ mode number. number ≡ mode_number mode };
+
+    fn from(mode: Mode) -> u32 {
+        match mode {
             Mode::Read => 1,
             Mode::Write => 2,
             Mode::Update => 3,
         }
     }
+}
 
-    // The mode with this number, if there is one.
-    pub fn of(number: u32) -> Option<Mode>
-        ensures { result ≡ mode_of number }
-    {
+impl TryFrom<u32> for Mode {
+    type Error = UnknownNumber;
+
+    ghost try_from_gives = { λ number told. told ≡ told_or_unknown (mode_of number) number };
+
+    fn try_from(number: u32) -> Result<Mode, UnknownNumber> {
         match number {
-            1 => Some(Mode::Read),
-            2 => Some(Mode::Write),
-            3 => Some(Mode::Update),
-            _ => None,
+            1 => Ok(Mode::Read),
+            2 => Ok(Mode::Write),
+            3 => Ok(Mode::Update),
+            _ => Err(UnknownNumber { number }),
         }
     }
 }
 
-// Whether a line of this mode reads its card.
+impl Mode {
+    // Whether a line of this mode reads its card.
+    pub fn reads(self) -> bool
+        ensures { result ≡ reads (mode_number self) }
+    {
+        matches!(self, Mode::Read | Mode::Update)
+    }
+
+    // Whether a line of this mode writes its card.
+    pub fn writes(self) -> bool
+        ensures { result ≡ writes (mode_number self) }
+    {
+        matches!(self, Mode::Write | Mode::Update)
+    }
+}
+
+// Whether a line with this number of a mode reads its card; one of an unknown mode does not.
 pub fn does_read(mode: u32) -> bool
     ensures { result ≡ reads mode }
 {
-    mode == 1 || mode == 3
+    Mode::try_from(mode).is_ok_and(|mode| mode.reads())
 }
 
-// Whether a line of this mode writes its card.
+// Whether a line with this number of a mode writes its card; one of an unknown mode does not.
 pub fn does_write(mode: u32) -> bool
     ensures { result ≡ writes mode }
 {
-    mode == 2 || mode == 3
+    Mode::try_from(mode).is_ok_and(|mode| mode.writes())
 }

@@ -9,7 +9,7 @@ use Rattle.terms.specs.declared.kind.Kind.{Kind}
 use Rattle.terms.specs.declared.kind.Kind.TheVariants as kind
 use Rattle.terms.specs.declared.outcome.Outcome.{Outcome}
 use Rattle.terms.specs.declared.outcome.Outcome.TheVariants.{Commit, Abort}
-use Rattle.terms.specs.Kinds.{kind_number, kind_of}
+use Rattle.terms.specs.Kinds.{kind_number, kind_of, verdict_kind}
 use Rattle.terms.specs.Lists.{In}
 use Rattle.records.specs.declared.card.Card.{Card}
 use Rattle.records.specs.declared.message.Message.{Message}
@@ -24,7 +24,6 @@ use Rattle.delivering.specs.Effects.{landing, recording, fits}
 use Rattle.delivering.specs.Marks.{transaction_marked, has_line}
 use Rattle.delivering.specs.Owns.{own_place, remarked}
 use Rattle.site.specs.Tables.{at_place, replaced}
-use Rattle.settling.specs.Settling.{verdict_kind}
 use Rattle.model.specs.Calls.{deliver_room, own_of, deliver_outcome}
 use Rattle.model.specs.Rules.{Rules}
 use Rattle.model.specs.Single.{Noted}

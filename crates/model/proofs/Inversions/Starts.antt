@@ -2,7 +2,7 @@
 use Rattle.std.proofs.Common.{◌≡◌, ℕ, ◌+◌, ◌-◌, ◌<◌, ◌≤◌, true, false, eqb, leb, List, [], ◌∷◌, length, Some, None, Ok, Option, sym, refl, ap, subst, arith}
 use Rattle.std.proofs.lemmas.List.{length-take-le}
 use Rattle.std.proofs.lemmas.Bool.{or_parts, leb-false, ltb-false, eqb-true, eqb-false}
-use Rattle.terms.specs.Few.{few_list}
+use Rattle.terms.specs.Few.{few_list, few_of}
 use Rattle.terms.specs.Times.{time_at}
 use Rattle.book.specs.Meaning.{Answer, declines, gives, OneForEachWrite}
 use Rattle.records.specs.declared.transaction.Transaction.{Transaction}
@@ -14,7 +14,7 @@ use Rattle.starting.specs.declared.start.Room.{Room}
 use Rattle.starting.specs.Drafting.{cards_fault, drafted}
 use Rattle.starting.specs.Landing.{start_landing}
 use Rattle.starting.specs.Reading.{values_read}
-use Rattle.starting.specs.Starting.{few_of, next_time, no_records, answered, unless_fault, timed}
+use Rattle.starting.specs.Starting.{next_time, no_records, answered, unless_fault, timed}
 use Rattle.model.specs.Calls.{start_room, start_outcome}
 use Rattle.model.specs.Rules.{Rules, Lawful}
 use Rattle.model.specs.Runs.{given_by, given}

@@ -8,7 +8,7 @@ use Rattle.terms.specs.declared.kind.Kind.TheVariants.{Confirm, Deny}
 use Rattle.terms.specs.declared.outcome.Outcome.{Outcome}
 use Rattle.terms.specs.declared.outcome.Outcome.TheVariants.{Commit, Abort}
 use Rattle.terms.specs.Few.{few_list}
-use Rattle.terms.specs.Kinds.{kind_number}
+use Rattle.terms.specs.Kinds.{kind_number, verdict_kind}
 use Rattle.terms.specs.Times.{site_of}
 use Rattle.records.specs.declared.card.Card.{Card}
 use Rattle.records.specs.declared.line.Line.{Line}
@@ -23,7 +23,7 @@ use Rattle.starting.specs.Starting.{line_messages, start_messages}
 use Rattle.delivering.specs.declared.effect.Effect.{Effect}
 use Rattle.delivering.specs.declared.effect.Effect.TheVariants.{Nothing, Lands, Confirms, Denies, Marks, Records}
 use Rattle.delivering.specs.Effects.{landing, recording, reply_of, replies}
-use Rattle.settling.specs.Settling.{verdict_kind, repeating, verdict_messages}
+use Rattle.settling.specs.Settling.{repeating, verdict_messages}
 use Rattle.steps.specs.Numbers.{stopped}
 use Rattle.model.specs.Rules.{Rules}
 use Rattle.model.specs.Runs.{start_accepted}

@@ -7,7 +7,7 @@ use Rattle.terms.specs.declared.mark.Mark.TheVariants.{Asked, Confirmed, Denied}
 use Rattle.terms.specs.declared.outcome.Outcome.{Outcome}
 use Rattle.terms.specs.declared.outcome.Outcome.TheVariants.{Commit, Abort}
 use Rattle.terms.specs.Few.{few_list}
-use Rattle.terms.specs.Kinds.{kind_number}
+use Rattle.terms.specs.Kinds.{kind_number, verdict_kind}
 use Rattle.terms.specs.Lists.{In}
 use Rattle.terms.specs.Modes.{reads}
 use Rattle.terms.specs.Times.{site_of}
@@ -21,7 +21,6 @@ use Rattle.starting.specs.declared.start.Order.{Order}
 use Rattle.delivering.specs.declared.effect.Effect.{Effect}
 use Rattle.settling.specs.declared.doubt.Doubt.TheVariants.{Unproved}
 use Rattle.settling.specs.Doubts.{mark_is, any_mark, writer_is, any_writer}
-use Rattle.settling.specs.Settling.{verdict_kind}
 use Rattle.steps.specs.Numbers.{stopped}
 use Rattle.model.specs.Rules.{Rules}
 use Rattle.model.specs.Single.{Noted}

@@ -2,12 +2,11 @@
 -- where such a line goes; what any site knows of a time is what the time's origin knows. Assumes nothing.
 use Rattle.std.proofs.Common.{◌≡◌, ℕ, ◌<◌, ◌⊎◌, map, Some}
 use Rattle.terms.specs.declared.outcome.Outcome.{Outcome}
-use Rattle.terms.specs.Kinds.{kind_number}
+use Rattle.terms.specs.Kinds.{kind_number, verdict_kind}
 use Rattle.terms.specs.Lists.{In}
 use Rattle.terms.specs.Times.{site_of}
 use Rattle.records.specs.declared.line.Line.{Line}
 use Rattle.records.specs.declared.message.Message.{Message}
-use Rattle.settling.specs.Settling.{verdict_kind}
 use Rattle.model.specs.Rules.{Rules}
 use Rattle.model.proofs.State.{State, told}
 use Rattle.model.proofs.Lots.{Lot, lots, origin, primary, Goes, OfStarted}

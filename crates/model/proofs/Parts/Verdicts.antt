@@ -4,12 +4,11 @@ use Rattle.std.proofs.Common.{◌≡◌, ℕ, true, ◌⊎◌, Some}
 use Rattle.terms.specs.declared.mark.Mark.TheVariants.{Confirmed}
 use Rattle.terms.specs.declared.outcome.Outcome.{Outcome}
 use Rattle.terms.specs.declared.outcome.Outcome.TheVariants.{Commit}
-use Rattle.terms.specs.Kinds.{kind_number}
+use Rattle.terms.specs.Kinds.{kind_number, verdict_kind}
 use Rattle.terms.specs.Lists.{In}
 use Rattle.terms.specs.Modes.{reads}
 use Rattle.terms.specs.Times.{site_of}
 use Rattle.records.specs.declared.message.Message.{Message}
-use Rattle.settling.specs.Settling.{verdict_kind}
 use Rattle.model.specs.Rules.{Rules}
 use Rattle.model.proofs.State.{State, told}
 use Rattle.model.proofs.Lots.{Lot, lots, origin, Goes}

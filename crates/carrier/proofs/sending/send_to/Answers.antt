@@ -1,33 +1,27 @@
-use Rattle.std.proofs.Common.{◌+◌, length, refl, ap, arith}
-use Rattle.std.proofs.lemmas.List.{append-nil, append_assoc, length-append}
-use Rattle.carrier.specs.Sending.{copy_if_named}
-use Rattle.carrier.proofs.Putting.{length_copies}
-use Rattle.carrier.proofs.Targets.{copies_from, copies_next, copies_done}
+use Rattle.std.proofs.Common.{[], ◌∷◌, ◌+◌, length, ap, append_assoc, arith, length-append}
+use Rattle.std.proofs.lemmas.List.{length-map}
+use Rattle.carrier.specs.Sending.{targets, addressed}
+use Rattle.carrier.proofs.Targets.{copies_from, copies_named, copies_unnamed}
 use Rattle.carrier.proofs.sending.send_to.Goals as goal
+use Rattle.carrier.proofs.sending.send_to.Goals.{then-names+in_ok-put, else-names}
 
 pub loop-site-preserved : goal.loop-site-preserved
 loop-site-preserved g c =
-    let queue = c.in_ok-send_if_named.ensures.did.queue in
-    let next = copies_next c.args.message c.args.sites c.loop-site.site c.loop-site-test.true in
-    let joined = append_assoc (g.C.Carrier.waiting c.loop-site.carrier) (copy_if_named c.args.message c.args.sites c.loop-site.site) (copies_from c.args.message c.args.sites (c.loop-site.site + 1)) in
-    (cc, cc)
-
-pub returns-then-free_places-target_count : goal.returns-then-free_places-target_count
-returns-then-free_places-target_count g c =
-    let bound = g.met.C.Carrier.bounded c.args.carrier.now in
-    record { did = record { why = refl; crowd = omega (arith, length_copies c.args.message c.args.sites); kept = refl {a = g.C.Carrier.waiting c.args.carrier.now} }; same = refl {a = g.C.Carrier.limit c.args.carrier.now} }
+    elim c.if-names.branch [
+      | then-names+in_ok-put w ↦
+          let put = w.in_ok-put.ensures in
+          let next = copies_named c.args.message c.args.sites c.loop-site.site c.loop-site-test.true w.if-names.ensures in
+          let joined = append_assoc (g.C.Carrier.queue c.loop-site.carrier).waiting (addressed c.args.message c.loop-site.site ∷ []) (copies_from c.args.message c.args.sites (c.loop-site.site + 1)) in
+          (cc, cc)
+      | else-names w ↦
+          let next = copies_unnamed c.args.message c.args.sites c.loop-site.site c.loop-site-test.true w.if-names.ensures in
+          (cc, cc)
+    ]
 
 -- The copies fit, so the next one finds a place.
-pub returns-in_err-send_if_named : goal.returns-in_err-send_if_named
-returns-in_err-send_if_named g c =
+pub returns-in_err-put : goal.returns-in_err-put
+returns-in_err-put g c =
     let bound = g.met.C.Carrier.bounded c.args.carrier.now in
-    let next = copies_next c.args.message c.args.sites c.loop-site.site c.loop-site-test.true in
-    let never : ⊥ = omega (arith, c.in_err-send_if_named.ensures.did.crowd, length_copies c.args.message c.args.sites, simp length-append at (ap length next), simp length-append at (ap length c.loop-site.invariant.0)) in
+    let next = copies_named c.args.message c.args.sites c.loop-site.site c.loop-site-test.true c.if-names.ensures in
+    let never : ⊥ = omega (arith, c.in_err-put.ensures.crowd, length-map (targets c.args.sites) (addressed c.args.message), ap length next, simp length-append at (ap length c.loop-site.invariant.0)) in
     elim never [ ]
-
-pub returns : goal.returns
-returns g c =
-    let bound = g.met.C.Carrier.bounded c.args.carrier.now in
-    let done = copies_done c.args.message c.args.sites c.loop-site.site c.loop-site-test.false in
-    let end = append-nil (g.C.Carrier.waiting c.loop-site.carrier) in
-    record { did = record { free = omega (arith, length_copies c.args.message c.args.sites); queue = cc }; same = c.loop-site.invariant.1 }

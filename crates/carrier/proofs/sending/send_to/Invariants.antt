@@ -6,4 +6,4 @@ use Rattle.carrier.proofs.sending.send_to.Given as goal
 -- What waits, followed by the copies still to be sent, is what waited before, followed by all copies.
 abbrev pub invariant-loop-site : goal.invariant-loop-site
 invariant-loop-site g l =
-    (g.C.Carrier.waiting l.carrier ++ copies_from l.message l.sites l.site ≡ g.C.Carrier.waiting l.initial.carrier ++ copies l.message l.sites) × (g.C.Carrier.limit l.carrier ≡ g.C.Carrier.limit l.initial.carrier)
+    ((g.C.Carrier.queue l.carrier).waiting ++ copies_from l.message l.sites l.site ≡ (g.C.Carrier.queue l.initial.carrier).waiting ++ copies l.message l.sites) × ((g.C.Carrier.queue l.carrier).limit ≡ (g.C.Carrier.queue l.initial.carrier).limit)

@@ -1,8 +1,8 @@
-use Rattle.book.specs.Meaning.{modes_in}
-use Rattle.site.proofs.Places.{sent_by_four}
+use Rattle.terms.specs.Few.{few_list}
+use Rattle.site.proofs.Named.{sent_more}
 use Rattle.site.proofs.lines.sent_mask.Goals as goal
 
-pub returns : goal.returns
-returns g c s h =
-    sent_by_four c.args.size c.args.cards.now c.args.origin (modes_in c.args.modes) c.args.x.now c.mask_at-first.result c.mask_at-second.result c.mask_at-third.result c.mask_at-fourth.result s
-    (c.mask_at-first.ensures s h) (c.mask_at-second.ensures s h) (c.mask_at-third.ensures s h) (c.mask_at-fourth.ensures s h)
+pub loop-line-preserved : goal.loop-line-preserved
+loop-line-preserved g c s h =
+    sent_more c.args.table.now.size c.args.table.now.cards.now c.args.origin c.loop-line.mask c.target_mask-mask.result s c.in-Some.line (few_list c.loop-line.line-iterator.few) (few_list c.next.new.self.few) _
+    (c.target_mask-mask.ensures s h) c.in-Some.ensures.steps (c.loop-line.invariant s h)

@@ -10,5 +10,5 @@ pub returns : goal.returns
 returns g c =
     let order = c.args.order.now in
     c.start.ensures
-    ∙ (λ i. start_answer (g.B.RuleBook.modes c.args.book.now order.rule) (g.B.RuleBook.answer c.args.book.now order.rule) (c.view_of-view.ensures i) order (record { counter = c.args.used.counter; started = c.args.counts.started; lines = c.saturating_sub.ensures i; places = c.args.places }))
+    ∙ (λ i. start_answer (g.B.RuleBook.modes c.args.book.now order.rule) (g.B.RuleBook.answer c.args.book.now order.rule) (c.view_of-view.ensures i) order (record { counter = c.args.numbers.used.counter; started = c.args.numbers.counts.started; lines = c.saturating_sub.ensures i; places = c.args.places }))
     ∙ cond_below _ _ _ _ c.if-transactions-counts.false

@@ -3,13 +3,11 @@ use Rattle.commands.specs.Commands.{command_form}
 use Rattle.commands.proofs.Back.{back}
 use Rattle.commands.proofs.command.Command.of.Goals as goal
 
-pub returns : goal.returns
-returns g c =
+pub returns-clause-back : goal.returns-clause-back
+returns-clause-back g c =
+    let told = g.V.Field.told in
     let value = g.V.FieldValue in
     let laws = g.met.V.FieldValue in
-    record {
-      form = c.told.ensures;
-      back = λ command fits is short.
-          c.told.ensures ∙ ap (command_form value.told) is
-          ∙ back value.told value.text value.fits laws.back laws.whole command fits (subst (λ line. length line ≤ 80) is short);
-    }
+    λ command fits is short.
+    c.told.ensures ∙ ap (command_form told) is
+    ∙ back told value.text value.fits (λ v fits. (laws.back v fits).0) (λ v fits. (laws.back v fits).1) command fits (subst (λ line. length line ≤ 80) is short)
