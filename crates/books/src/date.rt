@@ -138,6 +138,7 @@ pub enum DateRule {
     Compare,
 }
 
+// A match, as for the modes of lines.
 impl TryFrom<u32> for DateRule {
     type Error = DateRefusal;
 

@@ -45,6 +45,7 @@ pub enum TallyRule {
     Sum,
 }
 
+// A match, as for the modes of lines.
 impl TryFrom<u32> for TallyRule {
     type Error = TallyRefusal;
 

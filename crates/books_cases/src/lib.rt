@@ -8,8 +8,8 @@ mod tests {
     use books::tally::Tally;
     use terms::few::Few;
 
-    // A rule, its argument and the values read; then the values to write, or the book's code, a number as the rules have
-    // it.
+    // A rule, its argument and the values read; then the values to write, or the book's code, a number as the rules
+    // have it.
     #[derive(Clone, Copy)]
     struct Case<V>(u32, V, Few<V>, Result<Few<V>, u32>);
 

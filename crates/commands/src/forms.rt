@@ -1,5 +1,5 @@
-// What follows the words card and start of a sitting's script. A field that is missing, extra or unreadable is left with
-// its number.
+// What follows the words card and start of a sitting's script. A field that is missing, extra or unreadable is left
+// with its number.
 ghost use Rattle.std.specs.Prelude.{◌≡◌};
 ghost use Rattle.script.specs.Forms.{parsed};
 ghost use Rattle.script.specs.Readers.{left};

@@ -67,8 +67,8 @@ fn is_expected<V: Copy>(
     }
 }
 
-// What the receiver does with a message that is not foreign: by its kind, with guards on what is known, as the rules have
-// it.
+// What the receiver does with a message that is not foreign: by its kind, with guards on what is known, as the rules
+// have it.
 fn effect_of<V: Copy>(
     view: &View<'_, V>,
     own: Option<Transaction<V>>,

@@ -1,4 +1,4 @@
-// The comparison of two dates.
+// The comparison of two dates. Plain numbers, since C asks and reads them.
 ghost use Rattle.std.specs.Prelude.{◌≡◌};
 ghost use Rattle.books.specs.Dates.{date_of};
 ghost use Rattle.host_calls.specs.Calls.{dates_compared};

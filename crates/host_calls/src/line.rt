@@ -1,4 +1,4 @@
-// The check of one script line.
+// The check of one script line. Plain numbers, since C asks and reads them.
 ghost use Rattle.std.specs.Prelude.{◌≡◌, ◌==◌};
 ghost use Rattle.host_calls.specs.Calls.{bad_field, line_check, has_form};
 

@@ -35,6 +35,7 @@ impl<'a, V: Copy> View<'a, V> {
         verdict_on(self.table.size, self.verdicts, time)
     }
 
+    // Two names for two outcomes: one function that takes the outcome would be no shorter where it is asked.
     pub fn aborted(&self, time: u32) -> bool
         ensures { result ≡ aborted (seen self.now) time }
     {

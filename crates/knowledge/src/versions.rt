@@ -70,7 +70,8 @@ impl<'a, V: Copy> View<'a, V> {
         }
     }
 
-    // Whether a line is a version of the card, and known as committed where only such count.
+    // Whether a line is a version of the card, and known as committed where only such count: `settled` says so, a flag
+    // as in the definition.
     pub(crate) fn written(&self, number: u32, settled: bool, l: &Line<V>) -> bool
         ensures { result ≡ written (seen self.now) settled number l.now }
     {

@@ -12,7 +12,8 @@ use crate::word::Word;
 use books::date::Date;
 use terms::outcome::Outcome;
 
-// What a line tells. The mode is any number, and `read` the time of the version that was read.
+// What a line tells. The mode is any number, since a line may tell one that no mode has, and `read` the time of the
+// version that was read.
 #[derive(Clone, Copy, Debug, PartialEq, Eq)]
 pub enum Arrival {
     Opening(Date),
@@ -57,6 +58,7 @@ impl Arrival {
     }
 }
 
+// Each field is left with its own number, which is what a program prints.
 fn line(mut fields: Pieces) -> Result<Arrival, u32>
     ensures { result ≡ parsed line_form 2 (left fields.entry) }
 {

@@ -1,5 +1,5 @@
-// A line of a script: a word and the fields that follow it, parted by tabs. Each field is left with its own number, which
-// is what a program prints, and so the error is that number.
+// A line of a script: a word and the fields that follow it, parted by tabs. Each field is left with its own number,
+// which is what a program prints, and so the error is that number.
 ghost use Rattle.std.specs.Prelude.{◌≡◌, ℕ, List};
 ghost use Rattle.script.specs.Forms.{Form, ends, wants, parsed, line_parsed};
 ghost use Rattle.script.specs.Gathering.{gathered, kept};

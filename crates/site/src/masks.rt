@@ -26,7 +26,8 @@ fn only(site: u32) -> u32
     1 << site
 }
 
-// The sites below 8 to which a line of this mode on a card goes from its origin.
+// The sites below 8 to which a line of this mode on a card goes from its origin. The mode is the line's number, which
+// may be any.
 pub fn line_mask<V: Copy>(origin: u32, mode: u32, card: &Card<V>) -> u32
     ensures { (s : ℕ) → s < 8 → holds result s ≡ goes_to origin mode (Some card.now) s }
 {

@@ -1,5 +1,5 @@
-// A table of records whose first ones are used. A slice and a number, and no vector: the tables are memory that is handed
-// to each call.
+// A table of records whose first ones are used. A slice and a number, and no vector: the tables are memory that is
+// handed to each call.
 ghost use Rattle.std.specs.Prelude.{◌≡◌, ◌+◌, ◌≤◌, length, take};
 ghost use Rattle.terms.specs.Few.{few_list};
 ghost use Rattle.site.specs.Tables.{at_place, replaced, written, Extends};
@@ -45,7 +45,8 @@ fn write<X: Copy>(table: &mut [X], at: usize, more: Few<X>) -> usize
     write(table, at + 1, others)
 }
 
-// Writes up to four records behind the used ones if as many are free, and answers how many are used afterwards.
+// Writes up to four records behind the used ones if as many are free, and answers how many are used afterwards. A step
+// is refused before, when it is decided, if too few are; so this is no refusal of its own.
 pub fn append<X: Copy>(table: &mut [X], used: usize, more: Few<X>) -> usize
     ensures { Extends table.old used (few_list more) result table.new }
 {

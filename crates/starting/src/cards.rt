@@ -33,8 +33,8 @@ fn check_one<V: Copy>(
     }
 }
 
-// The same for some cards from a line on; of the cards before, the last one comes first. Down the list as the definition
-// goes, since each card is judged by those before it.
+// The same for some cards from a line on; of the cards before, the last one comes first. Down the list as the
+// definition goes, since each card is judged by those before it.
 fn check_from<V: Copy>(
     table: &CardTable<'_, V>,
     site: u32,

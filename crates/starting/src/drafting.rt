@@ -71,9 +71,9 @@ impl<'a, V: Copy> Draft<'a, V> {
         }
     }
 
-    // The entries of the steps, in line order from a number on, where these values are to be written. Down the list as its
-    // definition goes, since each step leaves the values to the next.
-    pub fn entries(&self, number: u32, steps: Few<Step>, written: Few<V>) -> Few<Entry<V>>
+    // The entries of the steps, in line order from a number on, where these values are to be written. Down the list as
+    // its definition goes, since each step leaves the values to the next.
+    pub(crate) fn entries(&self, number: u32, steps: Few<Step>, written: Few<V>) -> Few<Entry<V>>
         requires { number + length (few_list steps) ≤ 5 }
         ensures { few_list result ≡ drafted (seen self.now.view) self.now.origin self.now.time self.now.argument number (modes_of steps) (cards_of steps) (few_list written) }
     {

@@ -25,7 +25,8 @@ fn line_count<V: Copy>(table: &CardTable<'_, V>, origin: u32, line: &Line<V>) ->
     target_count(target_mask(table, origin, line))
 }
 
-// How many messages some lines take from their origin. Down the list as its definition goes: a loop would be no plainer.
+// How many messages some lines take from their origin. Down the list as its definition goes: a loop would
+// want the definition again as its invariant.
 pub(crate) fn message_count<V: Copy>(
     table: &CardTable<'_, V>,
     origin: u32,

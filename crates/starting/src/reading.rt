@@ -20,7 +20,8 @@ pub(crate) fn version_read<V: Copy>(view: &View<'_, V>, argument: V, card: u32) 
     })
 }
 
-// The values read, in line order. Down the list as its definition goes: a loop would be no plainer.
+// The values read, in line order. Down the list as its definition goes: a loop would
+// want the definition again as its invariant.
 pub(crate) fn values_read<V: Copy>(view: &View<'_, V>, argument: V, steps: Few<Step>) -> Few<V>
     ensures { few_list result ≡ values_read (seen view.now) argument (modes_of steps) (cards_of steps) }
 {

@@ -35,8 +35,8 @@ fn send_line<V: Copy, C: Carrier<V>>(
     send_to(carrier, message, target_mask(table, origin, &line))
 }
 
-// Sends some lines one after the other, where there are places for all. Down the list as its definition goes: a loop would
-// be no plainer.
+// Sends some lines one after the other, where there are places for all. Down the list as the messages' definition goes:
+// a loop would want the definition again as its invariant.
 fn send_each<V: Copy, C: Carrier<V>>(
     carrier: &mut C,
     table: &CardTable<'_, V>,
@@ -54,7 +54,8 @@ fn send_each<V: Copy, C: Carrier<V>>(
     Ok(())
 }
 
-// Sends the lines of a transaction, by line and then by site number, if there are places for all; else none.
+// Sends the lines of a transaction, by line and then by site number, if there are places for all; else none. The origin
+// is the order's, as in the definition.
 pub fn send_lines<V: Copy, C: Carrier<V>>(
     carrier: &mut C,
     table: &CardTable<'_, V>,

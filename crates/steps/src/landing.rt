@@ -19,7 +19,8 @@ fn is_denied(mark: Mark) -> bool
     mark == Mark::Denied
 }
 
-// Those of some lines whose entries are not denied. Down the list as its definition goes: a loop would be no plainer.
+// Those of some lines whose entries are not denied. Down the list as its definition goes: a loop would
+// want the definition again as its invariant.
 fn undenied<V: Copy>(lines: Few<Line<V>>, entries: Few<Entry<V>>) -> Few<Line<V>>
     ensures { few_list result ≡ undenied (few_list lines) (few_list entries) }
 {

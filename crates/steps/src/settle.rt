@@ -28,7 +28,8 @@ pub struct Settled {
     pub numbers: Numbers,
 }
 
-// Settles a transaction of this site: its verdict is told to each site that was sent a line, and recorded.
+// Settles a transaction of this site: its verdict is told to each site that was sent a line, and recorded. The tables
+// stay slices apart: so the type says which of them may change.
 pub fn settle<B: RuleBook, C: Carrier<B::Value>>(
     book: &B,
     carrier: &mut C,

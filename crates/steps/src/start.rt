@@ -58,7 +58,8 @@ fn decide<'a, B: RuleBook>(
     answer::start(book, &view, order, room)
 }
 
-// Starts a transaction at this site: its record is noted, its lines land and are sent.
+// Starts a transaction at this site: its record is noted, its lines land and are sent. The tables stay
+// slices apart: so the type says which of them may change.
 pub fn start<B: RuleBook, C: Carrier<B::Value>>(
     book: &B,
     carrier: &mut C,

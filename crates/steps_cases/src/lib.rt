@@ -92,7 +92,7 @@ mod tests {
         }
     }
 
-    // A line of card 0, number 1.
+    // A line of card 0, number 1. The cases of what one site knows have one like it: a crate for both would be longer.
     fn line(time: u32, mode: u32, read: u32, value: u32) -> Line<u32> {
         Line {
             time,
@@ -236,8 +236,8 @@ mod tests {
         }
     }
 
-    // The site's counter, lines and verdicts, the counts of transactions, messages put and delivered, and the marks of
-    // the first two transactions.
+    // Plain numbers, so that a row of a table is short: the site's counter, lines and verdicts, the counts of
+    // transactions, messages put and delivered; and the marks of the first two transactions.
     #[derive(Clone, Copy, Debug, PartialEq, Eq)]
     struct Figures([usize; 6], [Option<Mark>; 2]);
 

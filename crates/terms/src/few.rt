@@ -115,7 +115,7 @@ impl<T: Copy> Few<T> {
         }
     }
 
-    // The things with those at the same places of others, as far as both go.
+    // The things with those at the same places of others, as far as both go; down both lists, as the definition goes.
     pub fn zip<U: Copy>(self, others: Few<U>) -> Few<(T, U)>
         ensures { few_list result ≡ zip (few_list self) (few_list others) }
     {

@@ -15,6 +15,7 @@ pub enum Kind {
     Abort,
 }
 
+// Two matches, one each way: see the head of the module `number`.
 impl From<Kind> for u32 {
     ghost from_gives = { λ kind number. number ≡ kind_number kind };
 

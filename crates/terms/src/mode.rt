@@ -12,6 +12,7 @@ pub enum Mode {
     Update,
 }
 
+// Two matches, one each way: see the head of the module `number`.
 impl From<Mode> for u32 {
     ghost from_gives = { λ mode number. number ≡ mode_number mode };
 

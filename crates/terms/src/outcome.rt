@@ -11,6 +11,7 @@ pub enum Outcome {
     Abort,
 }
 
+// Two matches, one each way: see the head of the module `number`.
 impl From<Outcome> for u32 {
     ghost from_gives = { λ outcome number. number ≡ outcome_number outcome };
 
