@@ -1,6 +1,7 @@
 // What a reply leaves on the transaction whose line it answers.
-ghost use Rattle.std.specs.Prelude.{◌≡◌, true};
+ghost use Rattle.std.specs.Prelude.{◌≡◌, true, ◌≢◌};
 ghost use Rattle.terms.specs.Few.{few_list};
+ghost use Rattle.terms.specs.Kinds.{mark_kind};
 ghost use Rattle.delivering.specs.Marks.{marked, entry_marked, transaction_marked, marked_from, has_line, PresentAlike};
 
 use records::transaction::{Entry, Transaction};
@@ -8,9 +9,11 @@ use terms::few::Few;
 use terms::kind::Kind;
 use terms::mark::Mark;
 
-// The mark that a message of this kind leaves in place of another: by both, as the rules have it.
+// The mark that a message of this kind leaves in place of another: by both, as the rules have it. One that changes
+// becomes the one that this kind leaves.
 fn next_mark(mark: Mark, kind: Kind) -> Mark
-    ensures { result ≡ marked mark kind }
+    ensures value { result ≡ marked mark kind }
+    ensures by_kind { (result ≢ mark) → mark_kind result ≡ kind }
 {
     match (mark, kind) {
         (Mark::Asked, Kind::Confirm) => Mark::Confirmed,
