@@ -3,7 +3,7 @@ use Rattle.std.specs.Prelude.{◌≡◌, ℕ, zero, suc, ◌<◌, ◌≤◌, tru
 use Rattle.std.proofs.Common.{ap, ◌∙◌, ⊎_elim, arith}
 use Rattle.std.proofs.lemmas.Nat.{mod_below}
 use Rattle.std.proofs.lemmas.List.{get_or_default}
-use Rattle.std.proofs.lemmas.Bool.{true≢false, and_cases, leb-false, cond_both}
+use Rattle.std.proofs.lemmas.Bool.{true≢false, and_cases, leb-false, cond_both, cases_order}
 use Rattle.records.specs.declared.message.Message.{Message}
 use Rattle.terms.specs.Lists.{all}
 use Rattle.carriers.specs.Choosing.{lane, reached, distance, first_least, FoundFirst}
@@ -56,6 +56,20 @@ module _ {X : Type 0} (key : X → ℕ) where
       let best = least_is_first xs (omega (arith, one.1)) in
       let less = below (key x) xs e _ best in
       record { waits = omega (arith, best.waits); least = tail_least x xs _ best less; first = tail_first x xs _ best less })
+
+  -- A place that is the first of least key is the one that `first_least` gives: there is no other.
+  pub best_is_least : (xs : List X) (place : ℕ) → place ≤ length xs → (0 < length xs → FirstOfLeast xs place) → place ≡ first_least key xs
+  best_is_least [] place small best = omega arith
+  best_is_least (x ∷ xs) place small best =
+      let least = first_least key (x ∷ xs) in
+      let one = best (omega arith) in
+      let two = least_is_first (x ∷ xs) (omega arith) in
+      ⊎_elim
+      (λ e. e)
+      (⊎_elim
+      (λ (lt : place < least). absurd (omega (arith, two.first place x lt, one.least least x two.waits)))
+      (λ (lt : least < place). absurd (omega (arith, one.first least x lt, two.least place x one.waits))))
+      (cases_order place least)
 
 reached_distance : (hint to : ℕ) → to < 64 → to ≡ reached hint (distance hint to)
 reached_distance hint to h = omega arith
