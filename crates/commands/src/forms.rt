@@ -19,7 +19,7 @@ pub fn card<V: FieldValue>(mut fields: Pieces) -> Result<Command<V>, u32>
     let Some(primary) = fields.read() else {
         return Err(3);
     };
-    let Some(opening) = fields.read() else {
+    let Some(opening) = V::next_in(&mut fields) else {
         return Err(4);
     };
     if !fields.ended() {
@@ -41,7 +41,7 @@ pub fn start<V: FieldValue>(mut fields: Pieces) -> Result<Command<V>, u32>
     let Some(rule) = fields.read() else {
         return Err(3);
     };
-    let Some(argument) = fields.read() else {
+    let Some(argument) = V::next_in(&mut fields) else {
         return Err(4);
     };
     let cards = cards(fields)?;
